@@ -1,0 +1,4 @@
+pub mod Steps
+pub mod Packed
+pub mod Growing
+pub mod Exact

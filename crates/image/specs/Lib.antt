@@ -1,0 +1,9 @@
+pub mod Layout
+pub mod Refusals
+pub mod FirstRefusal
+pub mod Formats
+pub mod Exactness
+pub mod Packing
+pub mod Images
+pub mod Serving
+pub mod ServedWords
