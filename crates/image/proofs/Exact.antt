@@ -1,9 +1,9 @@
 -- The refusal that the tests give is the one that the format asks for.
-use Prim.Native.Nat.{ℕ, zero, suc, _+_, _*_, _/_, _<_, _≤_}
-use mathlib.Core.Bool.{Bool, true, false, cond}
-use mathlib.Core.List.{List, [], _∷_}
+use Prim.Native.Nat.{ℕ, zero, suc, _<_, _≤_}
+use mathlib.Core.Bool.{Bool, true, false}
+use mathlib.Core.List.{List}
 use mathlib.Core.Logic.{_⊎_, inl, inr, ⊎-elim}
-use mathlib.Core.Path.{_≡_, refl, sym, ap, subst, _∙_}
+use mathlib.Core.Path.{_≡_, refl, sym, subst}
 use native.Mathlib.Omega.{arith}
 use lib.Dec.{eqb}
 use lib.ListN.{length}
@@ -16,7 +16,7 @@ use Rattle.std.specs.declared.option.Option.the-variants.{Some, None}
 use Rattle.image.specs.declared.refusal.Refusal.{Refusal}
 use Rattle.image.specs.declared.refusal.Refusal.the-variants.{Length, Check, Place, Count, Filler}
 use Rattle.image.specs.Exactness.{RefusedExactly}
-use Rattle.image.specs.Formats.{WholeBlocks, SumRight, PlaceRight, CountRight, FillerRight, Sound, Format, Reached, AtFault}
+use Rattle.image.specs.Formats.{AtFault, CountRight, FillerRight, Reached, Sound, WholeBlocks}
 use Rattle.image.specs.Layout.{blockCount, blockWords, countOf, filler}
 use Rattle.image.specs.FirstRefusal.{allZero, blockRefusal, countFits, firstRefusal, placeFits, refusalOf, require, sizeFits, sumsUp}
 use Rattle.image.proofs.Steps.{block-decides}
@@ -65,6 +65,7 @@ tests-some true true false d i r some = inr (inr (inl ((cc), refl, refl, refl)))
 tests-some true true true false i r some = inr (inr (inr ((cc), refl, refl, refl, refl)))
 tests-some true true true true i r some = absurd (let z : _≡_ {A = ℕ} 0 1 = cc in omega arith)
 
+-- of the block at place i
 module _ (bytes : List ℕ) (i : ℕ) where
   abbrev n : ℕ
   n = blockCount bytes
@@ -154,6 +155,7 @@ first-sound bytes (suc k) upto none j below =
     (λ (here : k ≤ j). let same : k ≡ j = omega arith in let P : ℕ → Type 0 = Sound bytes in subst P same (block-sound bytes k (omega arith) (both .1)))
     (cases-lt j k)
 
+-- and where they are sound there is no refusal among them
 sound-first : (bytes : List ℕ) (k : ℕ) → k ≤ blockCount bytes → ((j : ℕ) → j < k → Sound bytes j) → firstRefusal bytes k ≡ None
 sound-first bytes zero upto sound = refl
 sound-first bytes (suc k) upto sound =

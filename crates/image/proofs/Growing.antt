@@ -14,11 +14,12 @@ use Rattle.std.specs.Iters.{counting}
 use Rattle.std.specs.shelf.Lists.{All, between, joined}
 use Rattle.image.specs.declared.block.Block.{Block}
 use Rattle.image.specs.Formats.{Format}
-use Rattle.image.specs.Images.{bytesWords, wordsIn}
+use Rattle.image.specs.Images.{wordsIn}
 use Rattle.image.specs.Layout.{blockCount, blockWords, carried, countOf}
 use Rattle.image.specs.Packing.{packed}
 use Rattle.image.proofs.Packed.{packed-push}
 
+-- the blocks read so far: each is full while more are to come
 pub record Grown (bytes : List ℕ) (k : ℕ) (blocks : List Block) : Type 0 where
   pub many : length blocks ≡ k
   pub whole : k < blockCount bytes → All (λ (b : Block). b .count ≡ 126) blocks
@@ -42,7 +43,7 @@ words-more bytes k blocks block room kept counted so-far =
     let here : wordsIn block ≡ carried (blockWords bytes k) = cc in
     cc
 
--- `read` are the words that the block was made of, and `grown` the blocks with it
+-- one block more: `read` are the words that it was made of, and `grown` the blocks with it
 pub grown-more : (bytes : List ℕ) (k : ℕ) (blocks grown : List Block) (block : Block) (read : List ℕ) → Format bytes → Grown bytes k blocks → k < blockCount bytes → read ≡ blockWords bytes k → block .words ≡ between 1 127 read → block .count ≡ countOf read → grown ≡ blocks ++ block ∷ [] → Grown bytes (k + 1) grown
 grown-more bytes k blocks grown block read format so-far inside same kept counted pushed =
     let some = count-some bytes k format inside in

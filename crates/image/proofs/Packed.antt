@@ -1,13 +1,13 @@
 -- Packed blocks: where the words of an image stand in them, and how a list of them grows.
 use Prim.Native.Nat.{ℕ, zero, suc, _+_, _-_, _*_, _/_, _%_, _<_, _≤_}
-use mathlib.Core.Bool.{Bool, true, cond, _&&_}
+use mathlib.Core.Bool.{true}
 use mathlib.Core.List.{List, [], _∷_, _++_}
 use mathlib.Core.Logic.{⊎-elim}
 use mathlib.Core.Path.{_≡_, refl, sym, ap, subst, _∙_}
 use native.Mathlib.Omega.{arith}
 use denote.Ref.{RefT}
-use lib.Dec.{eqb, leb, ltb}
-use lib.ListN.{length, getD, take, length-append}
+use lib.Dec.{eqb, leb}
+use lib.ListN.{length, getD, length-append}
 use Rattle.std.proofs.shelf.Lists.{getD-append-left, getD-append-right, length-take-le}
 use Rattle.std.proofs.shelf.Tests.{and-parts, and-from, cases-lt, cond-below, cond-above, eq-eqb, eqb-true, le-leb, leb-true}
 use Rattle.std.specs.Options.{Cases}
@@ -138,6 +138,7 @@ word-at blocks index block tight inside is =
     ∙ cond-above (index % 126) (length (wordsIn there)) _ None None past refl)
     (cases-lt (index % 126) (length (wordsIn there))))
 
+-- the blocks of an image are packed
 pub filled-packed : (blocks : List Block) → wellFilled blocks ≡ true → packed blocks ≡ true
 filled-packed blocks filled = and-parts (leb (length blocks) 64) (packed blocks) filled .1
 

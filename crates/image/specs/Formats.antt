@@ -18,6 +18,7 @@ pub record WholeBlocks (bytes : List ℕ) : Type 0 where
 abbrev pub SumRight : List ℕ → Type 0
 SumRight words = sum words % 2 ^ 32 ≡ 0xFFFF_FFFF
 
+-- a block says of itself the place that it is at
 abbrev pub PlaceRight : ℕ → List ℕ → Type 0
 PlaceRight i words = placeOf words ≡ i
 
@@ -26,6 +27,7 @@ abbrev pub CountRight : ℕ → ℕ → List ℕ → Type 0
 CountRight n i words =
     (i + 1 < n → countOf words ≡ 126) × (i + 1 ≡ n → (1 ≤ countOf words) × (countOf words ≤ 126))
 
+-- a block is filled up with zeros
 abbrev pub FillerRight : List ℕ → Type 0
 FillerRight words = All (λ word. word ≡ 0) (filler words)
 
@@ -36,6 +38,7 @@ pub record Sound (bytes : List ℕ) (i : ℕ) : Type 0 where
   pub count : CountRight (blockCount bytes) i (blockWords bytes i)
   pub filler : FillerRight (blockWords bytes i)
 
+-- bytes that can be opened
 pub record Format (bytes : List ℕ) : Type 0 where
   pub size : WholeBlocks bytes
   pub sound : (i : ℕ) → i < blockCount bytes → Sound bytes i

@@ -1,5 +1,4 @@
 -- How the blocks of an opened image are filled, so that a word's place in them follows from its number.
-use Prim.Native.Nat.{ℕ}
 use mathlib.Core.Bool.{Bool, true, _&&_}
 use mathlib.Core.List.{List, [], _∷_}
 use lib.Dec.{eqb, leb}
@@ -12,5 +11,6 @@ packed [] = true
 packed (block ∷ []) = leb 1 (block .count) && leb (block .count) 126
 packed (block ∷ next ∷ more) = eqb (block .count) 126 && packed (next ∷ more)
 
+-- what an image keeps true of its blocks
 abbrev pub wellFilled : List Block → Bool
 wellFilled blocks = leb (length blocks) 64 && packed blocks

@@ -49,6 +49,7 @@ pub enum OpenError {
     OutOfMemory,
 }
 
+// What `?` makes of want of memory.
 pub impl From<AllocError> for OpenError as OpenErrorFromAlloc {
     ghost converts = { λ _ r. r ≡ OutOfMemory };
 

@@ -20,6 +20,7 @@ use crate::refusal::OpenErrorFromAlloc;
 use std::alloc::AllocError;
 use std::alloc::Global;
 
+// Reads the blocks of bytes that passed every test.
 fn read_blocks(heap: Global, bytes: &[u8]) -> Result<Vec<Block>, AllocError>
     requires { ⌜ Format (now bytes) ⌝ }
     ensures filled { λ r. ⌜ made r (λ read. wellFilled (vec-items read) ≡ true) ⌝ }
@@ -35,6 +36,7 @@ fn read_blocks(heap: Global, bytes: &[u8]) -> Result<Vec<Block>, AllocError>
 }
 
 impl Image {
+    // An image with no words.
     pub fn new(heap: Global) -> Image
         ensures { λ r. ⌜ imageWords r ≡ [] ⌝ }
     {

@@ -1,6 +1,4 @@
-use Prim.Native.Nat.{_<_, _≤_}
 use native.Mathlib.Omega.{arith}
-use lib.ListN.{length}
 use mathlib.Core.Path.{ap}
 use Rattle.std.proofs.shelf.Lists.{take-all}
 use Rattle.std.specs.shelf.Lists.{sum}
