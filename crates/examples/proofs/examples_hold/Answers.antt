@@ -1,0 +1,10 @@
+-- Every row is an equation whose two sides compute to the same.
+use borrow.Author.Needs.{needs}
+use Rattle.std.specs.Written.{digits}
+use Rattle.image.specs.Layout.{blockWords}
+use Rattle.isa.specs.Decoding.{decoded}
+use Rattle.examples.proofs.examples_hold.Needs as need
+
+pub returns : need.returns
+unfolding decoded blockWords digits
+returns c = search needs

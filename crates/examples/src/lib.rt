@@ -1,0 +1,9 @@
+//! Worked examples of instruction words, flags and images, proved from the definitions that the other libraries'
+//! contracts cite.
+
+ghost use Rattle.examples.specs.Table.{Examples-hold};
+
+/// Does nothing. Its contract says that every row of the table in specs/ holds.
+pub fn examples_hold()
+    ensures { λ _. ⌜ Examples-hold ⌝ }
+{}

@@ -1,0 +1,14 @@
+pub mod Registers
+pub mod StatusFlags
+pub mod Numbered
+pub mod Conditions
+pub mod Operations
+pub mod TwosComplement
+pub mod Arithmetic
+pub mod Roles
+pub mod Layout
+pub mod Decoding
+pub mod Encoding
+pub mod Refusals
+pub mod Laws
+pub mod Syntax
