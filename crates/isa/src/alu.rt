@@ -1,12 +1,12 @@
 //! The arithmetic unit.
 
-ghost use Prim.Native.Nat.{_/_, _%_, _^_};
 ghost use lib.Dec.{eqb};
 ghost use lib.IntN.{_+ℤ_, _-ℤ_};
 ghost use mathlib.Core.Bool.{not};
 ghost use mathlib.Core.Path.{_≡_};
 ghost use Rattle.isa.specs.Arithmetic.{resultOf, flagsAfter};
 ghost use Rattle.isa.specs.TwosComplement.{signed, fitsSigned};
+ghost use Prim.Native.Nat.{_/_, _%_, _^_};
 use super::flags::Flags;
 use super::operation::Operation;
 

@@ -1,10 +1,10 @@
 //! Instructions as text, in the manual's syntax.
 
-ghost use Prim.Native.Nat.{_%_, _<_};
 ghost use mathlib.Core.List.{[], _∷_};
 ghost use mathlib.Core.Path.{_≡_};
 ghost use Rattle.std.specs.declared.option.Option.the-variants.{Some};
 ghost use Rattle.isa.specs.Syntax.{conditionText, operationText, registerText, operandText, transferText, hexDigit, hexText, branchTarget, assemblyText};
+ghost use Prim.Native.Nat.{_%_, _<_};
 use super::condition::Condition;
 use super::instruction::Action;
 use super::instruction::DataProcessing;

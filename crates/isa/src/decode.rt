@@ -1,12 +1,12 @@
 //! From a word to its instruction.
 
-ghost use Prim.Native.Nat.{_^_, _<_};
 ghost use mathlib.Core.Path.{_≡_};
 ghost use Rattle.std.specs.declared.option.Option.the-variants.{Some};
 ghost use Rattle.std.specs.declared.result.Result.the-variants.{Ok};
 ghost use Rattle.isa.specs.Decoding.{decoded, actionOf, dataAction, operandOf, transferOf};
 ghost use Rattle.isa.specs.Encoding.{encoded};
 ghost use Rattle.isa.specs.TwosComplement.{signed};
+ghost use Prim.Native.Nat.{_^_, _<_};
 use super::condition::Condition;
 use super::fields::*;
 use super::instruction::Action;

@@ -1,6 +1,5 @@
 //! From an instruction to its word.
 
-ghost use Prim.Native.Nat.{ℕ, _^_, _<_};
 ghost use mathlib.Core.Path.{_≡_};
 ghost use Rattle.std.specs.declared.option.Option.the-variants.{Some};
 ghost use Rattle.std.specs.declared.result.Result.the-variants.{Ok};
@@ -8,6 +7,7 @@ ghost use Rattle.isa.specs.Decoding.{decoded};
 ghost use Rattle.isa.specs.Encoding.{encoded, hasWord, dataFields, transferFields, actionFields};
 ghost use Rattle.isa.specs.Layout.{assembled};
 ghost use Rattle.isa.specs.Refusals.{noWord};
+ghost use Prim.Native.Nat.{ℕ, _^_, _<_};
 use super::fields::*;
 use super::instruction::Action;
 use super::instruction::DataProcessing;

@@ -1,8 +1,8 @@
 //! The fields of an instruction word: where each stands, and the only two functions that work on bits.
 
-ghost use Prim.Native.Nat.{_+_, _^_, _<_};
 ghost use mathlib.Core.Path.{_≡_};
 ghost use Rattle.isa.specs.Layout.{field, placed};
+ghost use Prim.Native.Nat.{_+_, _^_, _<_};
 
 /// A run of `width` bits, of which the lowest is bit `low`.
 #[derive(Clone, Copy)]

@@ -1,10 +1,10 @@
 //! A word as the program reads it.
 
-ghost use Prim.Native.Nat.{_<_, _≤_};
 ghost use mathlib.Core.Path.{_≡_};
 ghost use lib.ListN.{length};
 ghost use Rattle.std.specs.Options.{Cases};
 ghost use Rattle.words.specs.Hexadecimal.{digitOf, numberOn, wordIn};
+ghost use Prim.Native.Nat.{_<_, _≤_};
 
 /// The word that eight hexadecimal digits stand for; none if the line is anything else.
 pub fn word_in(line: &str) -> Option<u32>

@@ -1,9 +1,9 @@
 //! From a number to a register, and back.
 
-ghost use Prim.Native.Nat.{_≤_};
 ghost use mathlib.Core.Path.{_≡_};
 ghost use Rattle.std.specs.Options.{Cases};
 ghost use Rattle.isa.specs.Registers.{register};
+ghost use Prim.Native.Nat.{_≤_};
 use super::Register;
 
 impl Register {
