@@ -1,0 +1,8 @@
+//! A trace as text: each event of a routine on a line of its own, in fixed columns.
+
+mod columns;
+mod hex;
+mod line;
+
+pub use line::Line;
+pub use line::LineDisplay;
