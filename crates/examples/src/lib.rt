@@ -1,4 +1,4 @@
-//! Worked examples of instruction words, flags and images, proved from the definitions that the other libraries'
+//! Worked examples of words, flags, images and runs of the core, proved from the definitions that the other libraries'
 //! contracts cite.
 
 ghost use Rattle.examples.specs.Table.{Examples-hold};

@@ -1,0 +1,11 @@
+pub mod Facts
+pub mod Found
+pub mod Stages
+pub mod View
+pub mod Quiet
+pub mod Forward
+pub mod FrontStep
+pub mod Gaps
+pub mod OneClock
+pub mod Counting
+pub mod Late

@@ -1,0 +1,2 @@
+pub mod ClockLaw
+pub mod Lateness
