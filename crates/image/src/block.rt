@@ -9,7 +9,7 @@ use crate::layout::CHECK_WORD;
 use crate::layout::PAYLOAD_WORDS;
 use crate::layout::count_of;
 
-// The words between a block's head and its check word, of which the first `count` belong to the image.
+/// The words between a block's head and its check word, of which the first `count` belong to the image.
 #[derive(Drop)]
 pub struct Block {
     words: [u32; PAYLOAD_WORDS],

@@ -8,7 +8,7 @@ use crate::block::Block;
 mod opening;
 mod reading;
 
-// The words of the bytes that were opened last; none before that.
+/// The words of the bytes that were opened last; none before that.
 #[derive(Drop)]
 pub struct Image {
     blocks: Vec<Block>,

@@ -4,7 +4,7 @@ ghost use Rattle.image.specs.declared.refusal.OpenError.the-variants.{OutOfMem
 ghost use Rattle.image.specs.Refusals.{refusalNumber, refusalPlace};
 use std::alloc::AllocError;
 
-// The first test that the bytes fail. A fault inside a block names the block by its place, counted from 0.
+/// The first test that the bytes fail. A fault inside a block names the block by its place, counted from 0.
 #[derive(Clone, Copy, PartialEq, Debug)]
 pub enum Refusal {
     Length,
@@ -15,7 +15,7 @@ pub enum Refusal {
 }
 
 impl Refusal {
-    // The number under which users know the refusal.
+    /// The number under which users know the refusal.
     pub fn number(&self) -> u8
         ensures { λ r. ⌜ r ≡ refusalNumber (now (self .entry)) ⌝ }
     {
@@ -28,7 +28,7 @@ impl Refusal {
         }
     }
 
-    // The place of the block at fault; 0 where the length is, since no block is then read.
+    /// The place of the block at fault; 0 where the length is, since no block is then read.
     pub fn place(&self) -> u16
         ensures { λ r. ⌜ r ≡ refusalPlace (now (self .entry)) ⌝ }
     {
@@ -42,14 +42,14 @@ impl Refusal {
     }
 }
 
-// Memory can run out only for bytes that were found sound.
+/// Memory can run out only for bytes that were found sound.
 #[derive(Drop, Debug)]
 pub enum OpenError {
     Refused(Refusal),
     OutOfMemory,
 }
 
-// What `?` makes of want of memory.
+/// What `?` makes of want of memory.
 pub impl From<AllocError> for OpenError as OpenErrorFromAlloc {
     ghost converts = { λ _ r. r ≡ OutOfMemory };
 

@@ -4,3 +4,4 @@ pub mod Choosing
 pub mod Reading
 pub mod Writing
 pub mod Returning
+pub mod Sources

@@ -8,8 +8,13 @@ use Rattle.std.specs.declared.option.Option.the-variants.{Some}
 use Rattle.std.specs.declared.result.Result.the-variants.{Ok}
 use Rattle.isa.specs.Decoding.{decoded}
 use Rattle.isa.specs.Encoding.{encoded}
-use Rattle.isa.specs.Layout.{Fields, field, fit, assembled}
+use Rattle.isa.specs.Layout.{Fields, RN, RD, RM, field, fit, assembled}
+use Rattle.isa.specs.Registers.{register}
+use Rattle.isa.specs.Roles.{firstSource, secondSource}
+use Rattle.isa.specs.declared.instruction.Action.{Action}
+use Rattle.isa.specs.declared.instruction.Action.the-variants.{Data, Load, Store, Branch}
 use Rattle.isa.specs.declared.instruction.Instruction.{Instruction}
+use Rattle.isa.specs.declared.register.Register.{Register}
 
 -- the fields lie side by side, from below bit `top` down to bit 0
 abbrev pub tiles : ℕ → Fields → Bool
@@ -41,3 +46,22 @@ Words-return = (word : ℕ) (i : Instruction) → word < 2 ^ 32 → decoded word
 abbrev pub Instructions-return : Type 0
 Instructions-return =
     (i : Instruction) (word : ℕ) → encoded i ≡ Ok word → (word < 2 ^ 32) × (decoded word ≡ Some i)
+
+-- where the sources of an instruction stand in its word: Rn and bits 3:0, but Rd for the second source of a store; a
+-- branch has register 15 for its first
+abbrev pub firstField : Action → ℕ → Register
+firstField (Data d) word = register (field RN word)
+firstField (Load t) word = register (field RN word)
+firstField (Store t) word = register (field RN word)
+firstField (Branch offset) word = register 15
+
+abbrev pub secondField : Action → ℕ → Register
+secondField (Data d) word = register (field RM word)
+secondField (Load t) word = register (field RM word)
+secondField (Store t) word = register (field RD word)
+secondField (Branch offset) word = register (field RM word)
+
+abbrev pub Sources-stand-in-words : Type 0
+Sources-stand-in-words =
+    (word : ℕ) (i : Instruction) → decoded word ≡ Some i
+    → (firstSource (i .action) ≡ firstField (i .action) word) × (secondSource (i .action) ≡ secondField (i .action) word)

@@ -11,4 +11,5 @@ pub mod Decoding
 pub mod Encoding
 pub mod Refusals
 pub mod Laws
+pub mod Hexadecimal
 pub mod Syntax

@@ -1,11 +1,12 @@
 -- The text of an instruction at an address, in the manual's syntax. A text is its bytes.
-use Prim.Native.Nat.{ℕ, _+_, _/_, _%_, _^_}
+use Prim.Native.Nat.{ℕ, _+_, _%_, _^_}
 use mathlib.Core.Bool.{cond}
-use mathlib.Core.List.{List, [], _∷_, _++_, map}
+use mathlib.Core.List.{List, [], _∷_, _++_}
 use lib.Chars.{codes}
-use lib.Dec.{eqb, ltb}
+use lib.Dec.{eqb}
 use lib.IntN.{ℤ}
 use Rattle.std.specs.Written.{decimal}
+use Rattle.isa.specs.Hexadecimal.{hexText}
 use Rattle.isa.specs.Roles.{byteOffset}
 use Rattle.isa.specs.declared.assembly.Assembly.{Assembly}
 use Rattle.isa.specs.declared.condition.Condition.{Condition}
@@ -60,17 +61,6 @@ line [] = []
 line (x ∷ []) = x
 line (x ∷ y ∷ ys) = x ++ line (y ∷ ys)
 
--- a hexadecimal digit: 0 to 9, then a to f
-abbrev pub hexDigit : ℕ → ℕ
-hexDigit d = cond (ltb d 10) (48 + d) (87 + d)
-
--- the digit of a word at a place, counted from the right
-abbrev pub hexAt : ℕ → ℕ → List ℕ
-hexAt word place = hexDigit (word / 16 ^ place % 16) ∷ []
-
-abbrev pub hexText : ℕ → List ℕ
-hexText word = line (codes "0x" ∷ map (hexAt word) (7 ∷ 6 ∷ 5 ∷ 4 ∷ 3 ∷ 2 ∷ 1 ∷ 0 ∷ []))
-
 -- Rd, Rn and the operand; S stands before the condition
 abbrev pub threeText : List ℕ → DataProcessing → List ℕ
 threeText suffix d =
@@ -105,7 +95,7 @@ actionText address suffix (Data d) = dataText (d .operation) suffix d
 actionText address suffix (Load t) = line (codes "LDR" ∷ suffix ∷ codes " " ∷ transferText t ∷ [])
 actionText address suffix (Store t) = line (codes "STR" ∷ suffix ∷ codes " " ∷ transferText t ∷ [])
 actionText address suffix (Branch offset) =
-    line (codes "B" ∷ suffix ∷ codes " " ∷ hexText (branchTarget address offset) ∷ [])
+    line (codes "B" ∷ suffix ∷ codes " 0x" ∷ hexText (branchTarget address offset) ∷ [])
 
 abbrev pub assemblyText : Assembly → List ℕ
 assemblyText a = actionText (a .address) (conditionText (a .instruction .condition)) (a .instruction .action)

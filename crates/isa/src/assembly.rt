@@ -1,11 +1,11 @@
 //! Instructions as text, in the manual's syntax.
 
-ghost use mathlib.Core.List.{[], _∷_};
 ghost use mathlib.Core.Path.{_≡_};
 ghost use Rattle.std.specs.declared.option.Option.the-variants.{Some};
-ghost use Rattle.isa.specs.Syntax.{conditionText, operationText, registerText, operandText, transferText, hexDigit, hexText, branchTarget, assemblyText};
-ghost use Prim.Native.Nat.{_%_, _<_};
+ghost use Rattle.isa.specs.Syntax.{conditionText, operationText, registerText, operandText, transferText, branchTarget, assemblyText};
 use super::condition::Condition;
+use super::hex::Hex;
+use super::hex::HexDisplay;
 use super::instruction::Action;
 use super::instruction::DataProcessing;
 use super::instruction::Instruction;
@@ -92,57 +92,6 @@ pub impl fmt::Display for Transfer as TransferDisplay {
     }
 }
 
-/// 0 to 9, then a to f.
-fn glyph(digit: u8) -> char
-    requires { ⌜ digit < 16 ⌝ }
-    ensures value { λ r. ⌜ r ≡ hexDigit digit ⌝ }
-    ensures ascii { λ r. ⌜ r < 128 ⌝ }
-{
-    let code = if digit < 10 {
-        b'0' + digit
-    } else {
-        b'a' - 10 + digit
-    };
-    char::from(code)
-}
-
-/// The lowest hexadecimal digit of a number.
-#[derive(Clone, Copy)]
-struct Digit(u32);
-
-impl fmt::Display for Digit as DigitDisplay {
-    ghost shown = { λ d. Some (hexDigit (d .0 % 16) ∷ []) };
-
-    fn fmt<W: fmt::Write>(&self, f: &mut fmt::Formatter<W>) -> fmt::Result {
-        let glyph = glyph((self.0 % 16) as u8);
-        write!(f, "{glyph}")
-    }
-}
-
-/// A word in eight hexadecimal digits.
-#[derive(Clone, Copy)]
-struct Hex(u32);
-
-impl fmt::Display for Hex as HexDisplay {
-    ghost shown = { λ w. Some (hexText (w .0)) };
-
-    fn fmt<W: fmt::Write>(&self, f: &mut fmt::Formatter<W>) -> fmt::Result {
-        let word = self.0;
-        write!(
-            f,
-            "0x{}{}{}{}{}{}{}{}",
-            Digit(word >> 28),
-            Digit(word >> 24),
-            Digit(word >> 20),
-            Digit(word >> 16),
-            Digit(word >> 12),
-            Digit(word >> 8),
-            Digit(word >> 4),
-            Digit(word)
-        )
-    }
-}
-
 pub impl fmt::Display for Assembly as AssemblyDisplay {
     ghost shown = { λ a. Some (assemblyText a) };
 
@@ -168,7 +117,7 @@ pub impl fmt::Display for Assembly as AssemblyDisplay {
             Action::Store(transfer) => write!(f, "STR{suffix} {transfer}"),
             Action::Branch { offset } => {
                 let target = Hex(branch_target(self.address, offset));
-                write!(f, "B{suffix} {target}")
+                write!(f, "B{suffix} 0x{target}")
             }
         }
     }

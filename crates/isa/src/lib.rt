@@ -7,6 +7,7 @@ pub mod decode;
 pub mod encode;
 mod fields;
 pub mod flags;
+pub mod hex;
 pub mod instruction;
 pub mod laws;
 pub mod operation;

@@ -20,7 +20,7 @@ use Rattle.stepper.specs.declared.event.MemoryWrite.{MemoryWrite}
 use Rattle.stepper.specs.declared.event.RegisterWrite.{RegisterWrite}
 use Rattle.stepper.specs.declared.event.Stop.{Stop}
 use Rattle.stepper.specs.declared.event.Stop.the-variants.{Fetch, Outside, Access}
-use Rattle.lines.specs.Hexadecimal.{hexText}
+use Rattle.isa.specs.Hexadecimal.{hexText}
 
 abbrev pub kindText : Kind → List ℕ
 kindText Done = codes "done"

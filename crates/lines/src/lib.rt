@@ -1,7 +1,6 @@
 //! A trace as text: each event of a routine on a line of its own, in fixed columns.
 
 mod columns;
-mod hex;
 mod line;
 
 pub use line::Line;

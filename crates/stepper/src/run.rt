@@ -47,7 +47,11 @@ pub fn run_both<S: Store, M: Memory, S2: Store, M2: Memory>(
     memory2: &mut M2,
     limit: u32,
 ) -> Result<(Vec<Event>, Vec<Event>), AllocError>
-    ensures { λ r. ⌜ made r (λ events. BothRan (setting (S·Store .wordAt (now (store .entry))) (S·Store .tagAt (now (store .entry))) (M·Store .tagAt (now (memory .entry))) (M·Memory .writableAt (now (memory .entry)))) (setting (S2·Store .wordAt (now (store2 .entry))) (S2·Store .tagAt (now (store2 .entry))) (M2·Store .tagAt (now (memory2 .entry))) (M2·Memory .writableAt (now (memory2 .entry)))) (M·Store .wordAt (now (memory .entry))) (M2·Store .wordAt (now (memory2 .entry))) limit (vec-items (events .0)) (vec-items (events .1)) (M·Store .wordAt (now (memory .exit))) (M2·Store .wordAt (now (memory2 .exit)))) ⌝ }
+    ensures both { λ r. ⌜ made r (λ events. BothRan (setting (S·Store .wordAt (now (store .entry))) (S·Store .tagAt (now (store .entry))) (M·Store .tagAt (now (memory .entry))) (M·Memory .writableAt (now (memory .entry)))) (setting (S2·Store .wordAt (now (store2 .entry))) (S2·Store .tagAt (now (store2 .entry))) (M2·Store .tagAt (now (memory2 .entry))) (M2·Memory .writableAt (now (memory2 .entry)))) (M·Store .wordAt (now (memory .entry))) (M2·Store .wordAt (now (memory2 .entry))) limit (vec-items (events .0)) (vec-items (events .1)) (M·Store .wordAt (now (memory .exit))) (M2·Store .wordAt (now (memory2 .exit)))) ⌝ }
+    ensures tags { λ _. ⌜ M·Store .tagAt (now (memory .exit)) ≡ M·Store .tagAt (now (memory .entry)) ⌝ }
+    ensures writability { λ _. ⌜ M·Memory .writableAt (now (memory .exit)) ≡ M·Memory .writableAt (now (memory .entry)) ⌝ }
+    ensures tags2 { λ _. ⌜ M2·Store .tagAt (now (memory2 .exit)) ≡ M2·Store .tagAt (now (memory2 .entry)) ⌝ }
+    ensures writability2 { λ _. ⌜ M2·Memory .writableAt (now (memory2 .exit)) ≡ M2·Memory .writableAt (now (memory2 .entry)) ⌝ }
 {
     let first = run(heap, store, memory, limit)?;
     let second = run(heap, store2, memory2, limit)?;

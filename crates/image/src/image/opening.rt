@@ -36,7 +36,7 @@ fn read_blocks(heap: Global, bytes: &[u8]) -> Result<Vec<Block>, AllocError>
 }
 
 impl Image {
-    // An image with no words.
+    /// An image with no words.
     pub fn new(heap: Global) -> Image
         ensures { λ r. ⌜ imageWords r ≡ [] ⌝ }
     {
@@ -45,7 +45,7 @@ impl Image {
         }
     }
 
-    // Takes the words of `bytes` in place of its own. Unless that succeeds the image stays as it was.
+    /// Takes the words of `bytes` in place of its own. Unless that succeeds the image stays as it was.
     pub fn open(&mut self, heap: Global, bytes: &[u8]) -> Result<(), OpenError>
         ensures refusal { λ r. ⌜ refusedBy r ≡ refusalOf (now (bytes .entry)) ⌝ }
         ensures exact { λ _. ⌜ RefusedExactly (now (bytes .entry)) ⌝ }

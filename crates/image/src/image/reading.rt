@@ -13,7 +13,7 @@ use crate::image::Image;
 use crate::layout::PAYLOAD_WORDS;
 
 impl Image {
-    // How many words the image has.
+    /// How many words the image has.
     pub fn len(&self) -> usize
         ensures { λ r. ⌜ r ≡ length (imageWords (now (self .entry))) ⌝ }
     {
@@ -29,7 +29,7 @@ impl Image {
         self.len() == 0
     }
 
-    // The word number `index`, counted from 0.
+    /// The word number `index`, counted from 0.
     pub fn word(&self, index: usize) -> Option<u32>
         ensures { λ r. ⌜ r ≡ wordOf (imageWords (now (self .entry))) index ⌝ }
     {

@@ -3,7 +3,7 @@
 ghost use mathlib.Core.List.{[], _∷_};
 ghost use mathlib.Core.Path.{_≡_};
 ghost use Rattle.std.specs.declared.option.Option.the-variants.{Some};
-ghost use Rattle.lines.specs.Hexadecimal.{digitCode, hexText};
+ghost use Rattle.isa.specs.Hexadecimal.{digitCode, hexText};
 ghost use Prim.Native.Nat.{_%_, _<_};
 use std::fmt;
 
