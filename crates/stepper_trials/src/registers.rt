@@ -94,9 +94,9 @@ fn past_the_ends(rt: LibcRuntime) -> Result<(), Fail> {
         &mut memory,
         3,
         &[
-            "    1  00000000  eafffffd  B 0xFFFFFFFC              done     ----",
+            "    1  00000000  eafffffd  B 0xfffffffc              done     ----",
             "    2  fffffffc  e28f0000  ADD R0, R15, #0           done     ----  R0 = 00000004",
-            "    3  00000000  eafffffd  B 0xFFFFFFFC              done     ----",
+            "    3  00000000  eafffffd  B 0xfffffffc              done     ----",
         ],
     )
 }
