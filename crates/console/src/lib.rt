@@ -1,5 +1,7 @@
 // The edge that the programs share: an image from standard input. No contract can say what is read or printed, so
 // only that happens here, and all decisions are the libraries'.
+#![tactic(auto)]
+
 use anyhow::anyhow;
 use image::{Image, OpenError, Refusal};
 use std::io::Read;

@@ -1,5 +1,6 @@
 //! Worked examples of words, flags, images and runs of the core, proved from the definitions that the other libraries'
 //! contracts cite.
+#![tactic(auto)]
 
 ghost use Rattle.examples.specs.Table.{ExamplesHold};
 

@@ -1,4 +1,6 @@
 // A program image: its blocks are tested and read once, by `Image::open`, and its words are looked up from then on.
+#![tactic(auto)]
+
 mod block;
 mod faults;
 mod image;

@@ -1,4 +1,6 @@
 // Prints every word of the image on standard input with its address and its instruction, or why the image is refused.
+#![tactic(auto)]
+
 use console::read_image;
 use image::Image;
 use isa::Assembly;

@@ -1,4 +1,5 @@
 //! The instruction set: what each 32-bit word of the subset means.
+#![tactic(auto)]
 
 mod alu;
 pub mod assembly;

@@ -1,4 +1,5 @@
 //! Events as text: a trace with each event of a routine on a line of its own, and columns for other tables.
+#![tactic(auto)]
 
 mod columns;
 mod line;

@@ -1,4 +1,6 @@
 // Prints the listing of the image on standard input, a line a clock, or why the image is refused.
+#![tactic(auto)]
+
 use console::read_image;
 use image::{Image, ImageStore};
 use memory::bank::Bank;

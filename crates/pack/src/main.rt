@@ -1,5 +1,7 @@
 // Turns the text on standard input, one hexadecimal word to a line, into a program image on standard output, or says on
 // standard error which line is wrong.
+#![tactic(auto)]
+
 use anyhow::anyhow;
 use packing::TextError;
 use packing::pack::pack;

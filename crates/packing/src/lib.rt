@@ -1,4 +1,6 @@
 // Routines written by hand: text into words, and words into the bytes of a program image.
+#![tactic(auto)]
+
 mod block;
 mod error;
 mod line;

@@ -1,4 +1,6 @@
 // The five-stage core: slots, stage rules, one clock, and the calls that users make.
+#![tactic(auto)]
+
 pub mod calls;
 pub mod clock;
 pub mod core;

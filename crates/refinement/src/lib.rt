@@ -1,4 +1,6 @@
 // That the core runs the stepper's routine late, and the call that performs any list of calls.
+#![tactic(auto)]
+
 ghost use Rattle.refinement.specs.CallLists.{CallsRunLate};
 ghost use Rattle.refinement.specs.Lateness.{CoreRunsLate};
 

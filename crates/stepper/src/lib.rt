@@ -1,4 +1,6 @@
 // The stepper: one instruction at a time, no clocks. What it does is the meaning of a routine.
+#![tactic(auto)]
+
 pub mod access;
 pub mod event;
 pub mod execute;

@@ -1,5 +1,7 @@
 // Prints the timing sheet of the image on standard input: for each event the clock in which the core handed it out and
 // the clock that the law gives from the stepper's events, and in the end what cost clocks; or why the image is refused.
+#![tactic(auto)]
+
 use console::read_image;
 use image::{Image, ImageStore};
 use law::due::{Due, Lost, due_clocks};

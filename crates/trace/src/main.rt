@@ -1,4 +1,6 @@
 // Prints what the routine of the image on standard input does, an event to a line, or why the image is refused.
+#![tactic(auto)]
+
 use console::read_image;
 use image::{Image, ImageStore};
 use lines::Line;

@@ -1,5 +1,7 @@
 // Runs many images from standard input, one after another, and prints all that can be seen of each: the listing, the
 // registers, flags and data after it, and the stepper's events. What it must print comes from the second model.
+#![tactic(auto)]
+
 use anyhow::anyhow;
 use image::{Image, ImageStore, OpenError};
 use lines::Line;

@@ -1,5 +1,7 @@
 // Prints every word on standard input with its instruction, as it reads at address 0. A word is a line of eight
 // hexadecimal digits.
+#![tactic(auto)]
+
 use hexadecimal::word_in;
 use isa::Assembly;
 use isa::decode::decode;

@@ -3,8 +3,8 @@ use Rattle.image.proofs.Steps.{first_more, block_decides}
 use Rattle.image.proofs.faults.refusal_of.Goals as goal
 use Rattle.std.proofs.Common.{rules}
 
-pub returns-then-not-size-fits : goal.returns-then-not-size-fits
-returns-then-not-size-fits c = record { value = search rules; exact = refused_exactly c.args.bytes.now }
+pub returns-then-not-size_fits : goal.returns-then-not-size_fits
+returns-then-not-size_fits c = record { value = search rules; exact = refused_exactly c.args.bytes.now }
 
 pub returns-in-Some : goal.returns-in-Some
 returns-in-Some c =
@@ -12,15 +12,15 @@ returns-in-Some c =
       value =
           block_decides
           c.args.bytes.now
-          c.block-words-words.result
+          c.block_words-words.result
           c.loop-place.place
-          c.block-refusal.result
+          c.block_refusal.result
           c.in-Some.refusal
           (cc)
           c.loop-place-test.true
           c.loop-place.invariant
-          c.block-words-words.ensures
-          c.block-refusal.ensures
+          c.block_words-words.ensures
+          c.block_refusal.ensures
           c.in-Some.is;
       exact = refused_exactly c.args.bytes.now;
     }

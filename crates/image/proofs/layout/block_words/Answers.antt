@@ -15,7 +15,7 @@ loop-k-preserved c =
     0
     inside
     c.loop-k.invariant.1 in
-    (simp length-set c.loop-k.invariant.0, λ k below. rw c.word-at.ensures (front k below))
+    (simp length-set c.loop-k.invariant.0, λ k below. rw c.word_at.ensures (front k below))
 
 pub returns : goal.returns
 unfolding block_words

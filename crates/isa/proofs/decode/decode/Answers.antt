@@ -4,19 +4,19 @@ use Rattle.isa.proofs.Returning.{words_return}
 use Rattle.isa.proofs.decode.decode.Goals as goal
 use Rattle.isa.specs.Decoding.{decoded}
 
-pub returns-in-err-condition : goal.returns-in-err-condition
+pub returns-in_err-condition : goal.returns-in_err-condition
 unfolding decoded
-returns-in-err-condition c = search rules
+returns-in_err-condition c = search rules
 
-pub returns-in-err-action : goal.returns-in-err-action
+pub returns-in_err-action : goal.returns-in_err-action
 unfolding decoded
-returns-in-err-action c = search rules
+returns-in_err-action c = search rules
 
 pub returns : goal.returns
 unfolding decoded
 returns c =
     let h : c.args.word < 2 ^ 32 = search rules in
     let v :
-    Some (record { condition = c.in-ok-condition.condition; action = c.in-ok-action.action })
+    Some (record { condition = c.in_ok-condition.condition; action = c.in_ok-action.action })
     ≡ decoded c.args.word = search rules in
     record { value = v; exact = λ i e. words_return c.args.word i h (sym v ∙ e) }

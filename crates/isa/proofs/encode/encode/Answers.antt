@@ -4,9 +4,9 @@ use Rattle.isa.proofs.Returning.{instructions_return}
 use Rattle.isa.proofs.encode.encode.Goals as goal
 use Rattle.isa.specs.Encoding.{encoded}
 
-pub returns-then-not-has-word : goal.returns-then-not-has-word
+pub returns-then-not-has_word : goal.returns-then-not-has_word
 unfolding encoded
-returns-then-not-has-word c = search rules
+returns-then-not-has_word c = search rules
 
 pub returns : goal.returns
 unfolding encoded

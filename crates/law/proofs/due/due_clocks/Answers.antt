@@ -5,7 +5,7 @@ use Rattle.law.proofs.due.due_clocks.Goals as goal
 
 pub loop-event-init : goal.loop-event-init
 loop-event-init c =
-    subst (λ d. Sofar c.args.events.now 0 (vec_items c.new-table.result) d None) (sym c.nothing-due.ensures) (begins c.args.events.now (vec_items c.new-table.result) c.new-table.ensures.items)
+    subst (λ d. Sofar c.args.events.now 0 (vec_items c.new-table.result) d None) (sym c.nothing_due.ensures) (begins c.args.events.now (vec_items c.new-table.result) c.new-table.ensures.items)
 
 pub further-due-requires : goal.further-due-requires
 further-due-requires c =
@@ -14,7 +14,7 @@ further-due-requires c =
 
 pub loop-event-preserved : goal.loop-event-preserved
 loop-event-preserved c =
-    one_line c.args.events.now c.loop-event.event-index _ _ _ _ c.loop-event.last c.event-item.result c.loop-event-test.true c.event-item.is c.loop-event.invariant c.further-due.ensures (chosen _ _ _ _ c.push.ensures.items (ap is_ok c.in-ok-push.was))
+    one_line c.args.events.now c.loop-event.event-index _ _ _ _ c.loop-event.last c.event-item.result c.loop-event-test.true c.event-item.is c.loop-event.invariant c.further-due.ensures (chosen _ _ _ _ c.push.ensures.items (ap is_ok c.in_ok-push.was))
 
 pub returns : goal.returns
 returns c = whole c.args.events.now c.loop-event.event-index _ _ _ (omega arith) c.loop-event.invariant

@@ -8,10 +8,10 @@ returns c =
     c.args.place
     c.args.words.now
     (vec_items c.args.bytes.now)
-    c.in-ok-push-words.ensures
-    c.in-ok-push-words-2.ensures
-    c.in-ok-push-words-3.ensures
-    c.in-ok-push-words-4.ensures
-    c.head-of.ensures
+    c.in_ok-push_words.ensures
+    c.in_ok-push_words-2.ensures
+    c.in_ok-push_words-3.ensures
+    c.in_ok-push_words-4.ensures
+    c.head_of.ensures
     (c.filler.ensures ∙ filler_is (length c.args.words.now))
-    c.check-word.ensures
+    c.check_word.ensures

@@ -9,7 +9,7 @@ loop-word-init c = sym (append-nil _)
 pub loop-word-preserved : goal.loop-word-preserved
 loop-word-preserved c =
     let more = bytes_more (vec_items c.args.bytes.now) c.args.words.now c.loop-word.word-index c.loop-word-test.true in
-    let put = c.in-ok-extend-from-slice.ensures.items in
+    let put = c.in_ok-extend_from_slice.ensures.items in
     cc
 
 pub returns : goal.returns

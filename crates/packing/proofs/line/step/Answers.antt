@@ -17,11 +17,11 @@ more c =
     c.requires.1
     c.if-digits-lt8.true
 
-pub overflow-mul-result : goal.overflow-mul-result
-overflow-mul-result c = let room = (more c).room in omega arith
+pub overflow_mul-result : goal.overflow_mul-result
+overflow_mul-result c = let room = (more c).room in omega arith
 
-pub overflow-add-result : goal.overflow-add-result
-overflow-add-result c = let room = (more c).room in omega arith
+pub overflow_add-result : goal.overflow_add-result
+overflow_add-result c = let room = (more c).room in omega arith
 
 pub returns-then-digits-lt8 : goal.returns-then-digits-lt8
 returns-then-digits-lt8 c = record { next = search rules; fits = (more c).ranges }

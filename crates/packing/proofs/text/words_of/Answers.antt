@@ -26,7 +26,7 @@ loop-byte-preserved c = (
       (vec_items c.keep.new.words)
       c.loop-byte-test.true
       (sym c.in-Ok.is ∙ c.advance.ensures.next)
-      (c.in-ok-keep.ensures ∙ ap (λ (ws : List _). vec_items c.loop-byte.words ++ ws) c.ended-word.ensures),
+      (c.in_ok-keep.ensures ∙ ap (λ (ws : List _). vec_items c.loop-byte.words ++ ws) c.ended_word.ensures),
   c.in-Ok.ensures.fits,
   omega (arith, c.in-Ok.ensures.lines),
 )
@@ -41,4 +41,4 @@ returns c =
     c.loop-byte.invariant.0
     (vec_items c.keep-2.new.words)
     c.loop-byte-test.false
-    (c.in-ok-keep-2.ensures ∙ ap (λ (ws : List _). vec_items c.loop-byte.words ++ ws) c.word.ensures)
+    (c.in_ok-keep-2.ensures ∙ ap (λ (ws : List _). vec_items c.loop-byte.words ++ ws) c.word.ensures)

@@ -17,35 +17,35 @@ loop-call-init g c =
       refl,
     )
 
-pub returns-in-err-answer : goal.returns-in-err-answer
-returns-in-err-answer g c =
+pub returns-in_err-answer : goal.returns-in_err-answer
+returns-in_err-answer g c =
     let inv = c.loop-call.invariant in
-    let p = err_from_is_err_and c.from-residual.result c.from-residual.ensures.1 in
+    let p = err_from_is_err_and c.from_residual.result c.from_residual.ensures.1 in
     rw p.1 record {
       late = tt;
-      calls = given_up_then _ _ _ _ _ _ _ inv.0 (at_the_start (λ s. GivenUp s (machine c.loop-call.core (g.M.Store.word_at c.loop-call.memory)) (machine c.perform-one.new.core (g.M.Store.word_at c.perform-one.new.memory))) _ _ _ _ _ _ inv.1 inv.2 c.in-err-answer.ensures.call);
-      tags = c.perform-one.ensures.tags ∙ inv.1;
-      writability = c.perform-one.ensures.writability ∙ inv.2;
+      calls = given_up_then _ _ _ _ _ _ _ inv.0 (at_the_start (λ s. GivenUp s (machine c.loop-call.core (g.M.Store.word_at c.loop-call.memory)) (machine c.perform_one.new.core (g.M.Store.word_at c.perform_one.new.memory))) _ _ _ _ _ _ inv.1 inv.2 c.in_err-answer.ensures.call);
+      tags = c.perform_one.ensures.tags ∙ inv.1;
+      writability = c.perform_one.ensures.writability ∙ inv.2;
     }
 
-pub returns-in-err-push : goal.returns-in-err-push
-returns-in-err-push g c =
+pub returns-in_err-push : goal.returns-in_err-push
+returns-in_err-push g c =
     let inv = c.loop-call.invariant in
-    let p = err_from_is_err_and c.from-residual-in-err-push.result c.from-residual-in-err-push.ensures.1 in
+    let p = err_from_is_err_and c.from_residual-in_err-push.result c.from_residual-in_err-push.ensures.1 in
     rw p.1 record {
       late = tt;
-      calls = given_up_here _ _ _ _ _ _ (one_turn _ _ _ _ _ _ _ c.args.calls.now c.loop-call.call-index _ _ _ _ _ _ _ (omega arith) inv.1 inv.2 inv.0 c.in-ok-answer.ensures.call);
-      tags = c.perform-one.ensures.tags ∙ inv.1;
-      writability = c.perform-one.ensures.writability ∙ inv.2;
+      calls = given_up_here _ _ _ _ _ _ (one_turn _ _ _ _ _ _ _ c.args.calls.now c.loop-call.call-index _ _ _ _ _ _ _ (omega arith) inv.1 inv.2 inv.0 c.in_ok-answer.ensures.call);
+      tags = c.perform_one.ensures.tags ∙ inv.1;
+      writability = c.perform_one.ensures.writability ∙ inv.2;
     }
 
 pub loop-call-preserved : goal.loop-call-preserved
 loop-call-preserved g c =
     let inv = c.loop-call.invariant in
-    let kept = chosen _ _ _ _ c.push.ensures.items (ap is_ok c.in-ok-push.was) in (
-      rw kept (one_turn _ _ _ _ _ _ _ c.args.calls.now c.loop-call.call-index _ _ _ _ _ _ _ (omega arith) inv.1 inv.2 inv.0 c.in-ok-answer.ensures.call),
-      c.perform-one.ensures.tags ∙ inv.1,
-      c.perform-one.ensures.writability ∙ inv.2,
+    let kept = chosen _ _ _ _ c.push.ensures.items (ap is_ok c.in_ok-push.was) in (
+      rw kept (one_turn _ _ _ _ _ _ _ c.args.calls.now c.loop-call.call-index _ _ _ _ _ _ _ (omega arith) inv.1 inv.2 inv.0 c.in_ok-answer.ensures.call),
+      c.perform_one.ensures.tags ∙ inv.1,
+      c.perform_one.ensures.writability ∙ inv.2,
     )
 
 pub returns : goal.returns

@@ -6,35 +6,35 @@ use Rattle.refinement.specs.CallLists.{ClockMade, clock_hands}
 use Rattle.refinement.proofs.Performs.{performed, nothing_out, given_up}
 use Rattle.refinement.proofs.perform.perform_clock.Goals as goal
 
-pub returns-in-err-push : goal.returns-in-err-push
-returns-in-err-push g c =
-    let p = err_from_is_err_and c.from-residual.result c.from-residual.ensures.1 in
+pub returns-in_err-push : goal.returns-in_err-push
+returns-in_err-push g c =
+    let p = err_from_is_err_and c.from_residual.result c.from_residual.ensures.1 in
     record {
       call = rw p.1 (given_up _ _ _ (ClockMade (Ok c.in-Ok.tick)) c.in-Ok.ensures.clock);
       tags = c.clock-answer.ensures.tags;
       writability = c.clock-answer.ensures.writability;
     }
 
-pub returns-in-ok-push : goal.returns-in-ok-push
-returns-in-ok-push g c =
+pub returns-in_ok-push : goal.returns-in_ok-push
+returns-in_ok-push g c =
     record {
-      call = performed _ _ _ (ClockMade (Ok c.in-Ok.tick)) _ _ (chosen _ _ _ _ c.push.ensures.items (ap is_ok c.in-ok-push.was) ∙ ap (λ o. vec_items c.args.handed.now ++ option_to_list o) (sym c.in-Some.is)) c.in-Ok.ensures.clock;
+      call = performed _ _ _ (ClockMade (Ok c.in-Ok.tick)) _ _ (chosen _ _ _ _ c.push.ensures.items (ap is_ok c.in_ok-push.was) ∙ ap (λ o. vec_items c.args.handed.now ++ option_to_list o) (sym c.in-Some.is)) c.in-Ok.ensures.clock;
       tags = c.clock-answer.ensures.tags;
       writability = c.clock-answer.ensures.writability;
     }
 
-pub returns-in-default-handed : goal.returns-in-default-handed
-returns-in-default-handed g c =
+pub returns-in_default-handed : goal.returns-in_default-handed
+returns-in_default-handed g c =
     record {
-      call = nothing_out _ _ _ (ClockMade (Ok c.in-Ok.tick)) (vec_items c.args.handed.now) _ (ap option_to_list c.in-default-handed.is) refl c.in-Ok.ensures.clock;
+      call = nothing_out _ _ _ (ClockMade (Ok c.in-Ok.tick)) (vec_items c.args.handed.now) _ (ap option_to_list c.in_default-handed.is) refl c.in-Ok.ensures.clock;
       tags = c.clock-answer.ensures.tags;
       writability = c.clock-answer.ensures.writability;
     }
 
-pub returns-in-default : goal.returns-in-default
-returns-in-default g c =
+pub returns-in_default : goal.returns-in_default
+returns-in_default g c =
     record {
-      call = nothing_out _ _ _ (ClockMade c.clock-answer.result) (vec_items c.args.handed.now) _ (ap clock_hands c.in-default.is) refl c.clock-answer.ensures.clock;
+      call = nothing_out _ _ _ (ClockMade c.clock-answer.result) (vec_items c.args.handed.now) _ (ap clock_hands c.in_default.is) refl c.clock-answer.ensures.clock;
       tags = c.clock-answer.ensures.tags;
       writability = c.clock-answer.ensures.writability;
     }

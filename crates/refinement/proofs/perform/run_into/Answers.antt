@@ -5,27 +5,27 @@ use Rattle.refinement.specs.CallLists.{RunMade, run_hands}
 use Rattle.refinement.proofs.Performs.{performed, nothing_out, given_up}
 use Rattle.refinement.proofs.perform.run_into.Goals as goal
 
-pub returns-in-err-extend-from-slice : goal.returns-in-err-extend-from-slice
-returns-in-err-extend-from-slice g c =
-    let p = err_from_is_err_and c.from-residual.result c.from-residual.ensures.1 in
+pub returns-in_err-extend_from_slice : goal.returns-in_err-extend_from_slice
+returns-in_err-extend_from_slice g c =
+    let p = err_from_is_err_and c.from_residual.result c.from_residual.ensures.1 in
     record {
       call = rw p.1 (given_up _ _ _ (RunMade c.args.budget c.args.list.now (Ok c.in-Ok.ran) c.run-answer.new.list) c.in-Ok.ensures.run);
       tags = c.run-answer.ensures.tags;
       writability = c.run-answer.ensures.writability;
     }
 
-pub returns-in-ok-extend-from-slice : goal.returns-in-ok-extend-from-slice
-returns-in-ok-extend-from-slice g c =
+pub returns-in_ok-extend_from_slice : goal.returns-in_ok-extend_from_slice
+returns-in_ok-extend_from_slice g c =
     record {
-      call = performed _ _ _ (RunMade c.args.budget c.args.list.now (Ok c.in-Ok.ran) c.run-answer.new.list) _ _ (chosen _ _ _ _ c.extend-from-slice.ensures.items (ap is_ok c.in-ok-extend-from-slice.was)) c.in-Ok.ensures.run;
+      call = performed _ _ _ (RunMade c.args.budget c.args.list.now (Ok c.in-Ok.ran) c.run-answer.new.list) _ _ (chosen _ _ _ _ c.extend_from_slice.ensures.items (ap is_ok c.in_ok-extend_from_slice.was)) c.in-Ok.ensures.run;
       tags = c.run-answer.ensures.tags;
       writability = c.run-answer.ensures.writability;
     }
 
-pub returns-in-default : goal.returns-in-default
-returns-in-default g c =
+pub returns-in_default : goal.returns-in_default
+returns-in_default g c =
     record {
-      call = nothing_out _ _ _ (RunMade c.args.budget c.args.list.now c.run-answer.result c.run-answer.new.list) (vec_items c.args.handed.now) _ (ap (λ r. run_hands r c.run-answer.new.list) c.in-default.is) refl c.run-answer.ensures.run;
+      call = nothing_out _ _ _ (RunMade c.args.budget c.args.list.now c.run-answer.result c.run-answer.new.list) (vec_items c.args.handed.now) _ (ap (λ r. run_hands r c.run-answer.new.list) c.in_default.is) refl c.run-answer.ensures.run;
       tags = c.run-answer.ensures.tags;
       writability = c.run-answer.ensures.writability;
     }

@@ -5,6 +5,6 @@ use Rattle.report.proofs.line.put_address.Goals as goal
 pub returns : goal.returns
 returns c =
     record {
-      text = both (same_text (sym c.spaced-digits.ensures) c.put-place.ensures.text) c.put-cause.ensures.text;
-      end = omega (arith, c.put-place.ensures.end, ap length c.spaced-digits.ensures, c.put-cause.ensures.end);
+      text = both (same_text (sym c.spaced_digits.ensures) c.put-place.ensures.text) c.put_cause.ensures.text;
+      end = omega (arith, c.put-place.ensures.end, ap length c.spaced_digits.ensures, c.put_cause.ensures.end);
     }

@@ -5,6 +5,6 @@ use Rattle.report.proofs.line.put_stop.Goals as goal
 pub returns : goal.returns
 returns c =
     record {
-      text = both c.put-place.ensures.text (same_text (ap decimal (sym c.number.ensures)) c.put-decimal.ensures.text);
-      end = omega (arith, c.put-place.ensures.end, c.put-decimal.ensures.most);
+      text = both c.put-place.ensures.text (same_text (ap decimal (sym c.number.ensures)) c.put_decimal.ensures.text);
+      end = omega (arith, c.put-place.ensures.end, c.put_decimal.ensures.most);
     }

@@ -23,7 +23,7 @@ returns-then-number-lt10 t c =
 pub put-requires-2 : goal.put-requires-2
 put-requires-2 t c =
     let small : c.args.number < 2 ^ 32 = omega arith in
-    omega (arith, one_more c.args.number c.if-number-lt10.false small, ten_digits c.args.number small, c.put-decimal-place.ensures.end)
+    omega (arith, one_more c.args.number c.if-number-lt10.false small, ten_digits c.args.number small, c.put_decimal-place.ensures.end)
 
 pub returns : goal.returns
 returns t c =
@@ -31,9 +31,9 @@ returns t c =
     let small : n < 2 ^ 32 = omega arith in
     let many : 10 ≤ n = c.if-number-lt10.false in
     let step = decimal_step n many (omega arith) in
-    let end : c.put-2.result ≡ c.args.at + length (decimal n) = omega (arith, one_more n many small, c.put-decimal-place.ensures.end, c.put-2.ensures.end) in
+    let end : c.put-2.result ≡ c.args.at + length (decimal n) = omega (arith, one_more n many small, c.put_decimal-place.ensures.end, c.put-2.ensures.end) in
     record {
-      text = same_text step (both c.put-decimal-place.ensures.text c.put-2.ensures.text);
+      text = same_text step (both c.put_decimal-place.ensures.text c.put-2.ensures.text);
       end = end;
       most = omega (arith, end, ten_digits n small);
     }

@@ -5,6 +5,6 @@ use Rattle.report.proofs.text.put.Goals as goal
 pub returns : goal.returns
 returns c =
     record {
-      text = copied c.args.buffer.now c.args.text.now c.copy-from-slice.new.self c.args.at c.requires c.copy-from-slice.ensures.after;
+      text = copied c.args.buffer.now c.args.text.now c.copy_from_slice.new.self c.args.at c.requires c.copy_from_slice.ensures.after;
       end = refl;
     }

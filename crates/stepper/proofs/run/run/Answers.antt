@@ -5,10 +5,10 @@ use Rattle.stepper.proofs.Stays.{one_more, at_the_limit, at_the_stop, told_of, g
 use Rattle.stepper.proofs.run.run.Goals as goal
 use Rattle.stepper.proofs.run.run.Goals.{else-loop-taken-test, then-loop-taken-test+in-Err}
 
-pub returns-in-err-push : goal.returns-in-err-push
-returns-in-err-push g c =
+pub returns-in_err-push : goal.returns-in_err-push
+returns-in_err-push g c =
     let inv = c.loop-taken.invariant in
-    let p = err_from_is_err_and c.from-residual.result c.from-residual.ensures.1 in
+    let p = err_from_is_err_and c.from_residual.result c.from_residual.ensures.1 in
     record {
       run = rw p.1 (given_up _ _ c.loop-taken.-taken c.args.limit _ _ c.in-Ok.event (omega arith) inv.0.stands (told_of inv.1 inv.2 c.in-Ok.ensures.step));
       tags = c.step.ensures.tags ∙ inv.1;
@@ -18,7 +18,7 @@ returns-in-err-push g c =
 pub loop-taken-preserved : goal.loop-taken-preserved
 loop-taken-preserved g c =
     let inv = c.loop-taken.invariant in (
-      one_more _ _ c.loop-taken.-taken _ _ _ _ c.in-Ok.event inv.0 (told_of inv.1 inv.2 c.in-Ok.ensures.step) (chosen _ _ _ _ c.push.ensures.items (ap is_ok c.in-ok-push.was)),
+      one_more _ _ c.loop-taken.-taken _ _ _ _ c.in-Ok.event inv.0 (told_of inv.1 inv.2 c.in-Ok.ensures.step) (chosen _ _ _ _ c.push.ensures.items (ap is_ok c.in_ok-push.was)),
       c.step.ensures.tags ∙ inv.1,
       c.step.ensures.writability ∙ inv.2,
     )

@@ -6,11 +6,11 @@ pub returns : goal.returns
 returns c =
     let kept = c.args.self.now.blocks in
     last_words
-    c.as-slice.result.now
+    c.as_slice.result.now
     (vec_items kept)
     (vec_len kept)
     c.last.result
-    c.as-slice.ensures.value
+    c.as_slice.ensures.value
     kept.ok.0
     (filled_packed (vec_items kept) c.args.self.now.full)
     c.last.ensures.item

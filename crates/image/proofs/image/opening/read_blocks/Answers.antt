@@ -10,11 +10,11 @@ loop-place-preserved c =
     (vec_items c.loop-place.read)
     (vec_items c.push.new.self)
     c.new.result
-    c.block-words-words.result
+    c.block_words-words.result
     c.requires
     c.loop-place.invariant
     c.loop-place-test.true
-    c.block-words-words.ensures
+    c.block_words-words.ensures
     c.new.ensures.kept
     c.new.ensures.counted
-    c.in-ok-push.ensures.items
+    c.in_ok-push.ensures.items

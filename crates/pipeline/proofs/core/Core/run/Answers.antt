@@ -17,24 +17,24 @@ turned g c =
 
 pub clocks-init : goal.clocks-init
 clocks-init g c =
-    let p = accepted c.args.budget (length c.args.list.now) c.args.self.now (sym c.run-refusal.ensures ∙ c.in-default.is) in
+    let p = accepted c.args.budget (length c.args.list.now) c.args.self.now (sym c.run_refusal.ensures ∙ c.in_default.is) in
     (starts _ (machine c.args.self.now (g.M.Store.word_at c.args.memory.now)) c.args.budget c.args.list.now p.0 p.2 p.3 p.4, refl, refl, p.1)
 
 pub tick-tick-requires : goal.tick-tick-requires
 tick-tick-requires g c = omega (arith, c.clocks.invariant.0.left)
 
-pub overflow-add-made : goal.overflow-add-made
-overflow-add-made g c = let under = c.clocks.invariant.0.under in let most = c.clocks.invariant.3 in search rules
+pub overflow_add-made : goal.overflow_add-made
+overflow_add-made g c = let under = c.clocks.invariant.0.under in let most = c.clocks.invariant.3 in search rules
 
 pub place-written-requires : goal.place-written-requires
 place-written-requires g c = omega (arith, c.clocks.invariant.0.room, c.clocks.auto.list)
 
-pub returns-in-Some-end-of : goal.returns-in-Some-end-of
-returns-in-Some-end-of g c =
+pub returns-in-Some-end_of : goal.returns-in-Some-end_of
+returns-in-Some-end_of g c =
     let inv = c.clocks.invariant in
     let full : length c.place-written.new.list ≡ length c.args.list.now = omega arith in
     record {
-      run = (sym c.run-refusal.ensures ∙ c.in-default.is, ends _ _ c.args.budget c.args.list.now c.clocks.made c.place-written.result _ _ c.tick-tick.result.handed c.in-Some-end-of.reason inv.0.under (turned g (goal.at.returns-in-Some-end-of g c).After-place-written) (ap (λ n. end_of n c.args.budget c.place-written.result (c.clocks.made + 1) c.tick-tick.new.self (stop_in c.tick-tick.result.handed)) (sym full) ∙ ap (end_of (length c.place-written.new.list) c.args.budget c.place-written.result (c.clocks.made + 1) c.tick-tick.new.self) (sym c.stop-in-stop.ensures) ∙ sym c.end-of.ensures ∙ c.in-Some-end-of.is));
+      run = (sym c.run_refusal.ensures ∙ c.in_default.is, ends _ _ c.args.budget c.args.list.now c.clocks.made c.place-written.result _ _ c.tick-tick.result.handed c.in-Some-end_of.reason inv.0.under (turned g (goal.at.returns-in-Some-end_of g c).After-place-written) (ap (λ n. end_of n c.args.budget c.place-written.result (c.clocks.made + 1) c.tick-tick.new.self (stop_in c.tick-tick.result.handed)) (sym full) ∙ ap (end_of (length c.place-written.new.list) c.args.budget c.place-written.result (c.clocks.made + 1) c.tick-tick.new.self) (sym c.stop_in-stop.ensures) ∙ sym c.end_of.ensures ∙ c.in-Some-end_of.is));
       tags = c.tick-tick.ensures.tags ∙ inv.1;
       writability = c.tick-tick.ensures.writability ∙ inv.2;
     }
@@ -46,7 +46,7 @@ pub clocks-preserved : goal.clocks-preserved
 clocks-preserved g c =
     let inv = c.clocks.invariant in
     let full : length c.place-written.new.list ≡ length c.args.list.now = omega arith in (
-      again _ _ c.args.budget c.args.list.now c.clocks.made c.place-written.result _ _ c.tick-tick.result.handed inv.0.under (turned g (goal.at.clocks-preserved g c).After-place-written) (ap (λ n. end_of n c.args.budget c.place-written.result (c.clocks.made + 1) c.tick-tick.new.self (stop_in c.tick-tick.result.handed)) (sym full) ∙ ap (end_of (length c.place-written.new.list) c.args.budget c.place-written.result (c.clocks.made + 1) c.tick-tick.new.self) (sym c.stop-in-stop.ensures) ∙ sym c.end-of.ensures ∙ c.in-default-end-of.is),
+      again _ _ c.args.budget c.args.list.now c.clocks.made c.place-written.result _ _ c.tick-tick.result.handed inv.0.under (turned g (goal.at.clocks-preserved g c).After-place-written) (ap (λ n. end_of n c.args.budget c.place-written.result (c.clocks.made + 1) c.tick-tick.new.self (stop_in c.tick-tick.result.handed)) (sym full) ∙ ap (end_of (length c.place-written.new.list) c.args.budget c.place-written.result (c.clocks.made + 1) c.tick-tick.new.self) (sym c.stop_in-stop.ensures) ∙ sym c.end_of.ensures ∙ c.in_default-end_of.is),
       c.tick-tick.ensures.tags ∙ inv.1,
       c.tick-tick.ensures.writability ∙ inv.2,
       inv.3,

@@ -10,11 +10,11 @@ returns g c =
     let s = setting (g.S.Store.word_at c.args.store.now) (g.S.Store.tag_at c.args.store.now) (g.M.Store.tag_at c.args.memory.now) (g.M.Memory.writable_at c.args.memory.now) in
     let words = g.M.Store.word_at c.args.memory.now in
     let wrote = c.retire-handed.ensures.after in
-    let made = c.memory-stage-writeback.ensures in
+    let made = c.memory_stage-writeback.ensures in
     record {
       clock =
-          goes_through s c.retire-handed.new.self c.advance-signals.new.self words (g.M.Store.word_at c.memory-stage-writeback.new.memory) c.memory-stage-writeback.result c.retire-handed.result c.advance-signals.result
-          (sym c.if-holds-stop.ensures) made.slot made.words (sym c.if-holds-stop-2.ensures) c.advance-signals.ensures.after (c.retire-handed.ensures.handed ∙ ap (λ x. stamped x.clocks (handed_out x.slots.writeback)) (sym wrote)) c.advance-signals.ensures.signals
+          goes_through s c.retire-handed.new.self c.advance-signals.new.self words (g.M.Store.word_at c.memory_stage-writeback.new.memory) c.memory_stage-writeback.result c.retire-handed.result c.advance-signals.result
+          (sym c.if-holds_stop.ensures) made.slot made.words (sym c.if-holds_stop-2.ensures) c.advance-signals.ensures.after (c.retire-handed.ensures.handed ∙ ap (λ x. stamped x.clocks (handed_out x.slots.writeback)) (sym wrote)) c.advance-signals.ensures.signals
           ∙ ap (λ x. behind_writeback s x words) wrote;
       tags = made.tags;
       writability = made.writability;
