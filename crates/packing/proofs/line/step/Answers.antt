@@ -13,8 +13,8 @@ more c =
     c.in-Within-Digit.digit
     c.in-Within-Digit.is-0
     c.in-Within-Digit.is-1
-    c.requires.0
-    c.requires.1
+    c.requires.place_fits
+    c.requires.digit_fits
     c.if-digits-lt8.true
 
 pub overflow_mul-result : goal.overflow_mul-result
@@ -24,4 +24,4 @@ pub overflow_add-result : goal.overflow_add-result
 overflow_add-result c = let room = (more c).room in omega arith
 
 pub returns-then-digits-lt8 : goal.returns-then-digits-lt8
-returns-then-digits-lt8 c = record { next = search rules; fits = (more c).ranges }
+returns-then-digits-lt8 c = record { next = search rules; fits = (more c).fits }
