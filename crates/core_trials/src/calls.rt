@@ -3,7 +3,7 @@ use super::shown::{handed, mark, ran, state};
 use memory::bank::Bank;
 use pipeline::calls::Reason;
 use pipeline::clock::Handed;
-use pipeline::core::Core;
+use pipeline::state::Core;
 use std::test::Fail;
 use stepper::registers::UnknownRegister;
 

@@ -1,7 +1,7 @@
 // A list of calls of all kinds, some refused, performed in one go.
 use super::shown::{handed, mark, ran};
 use memory::bank::Bank;
-use pipeline::core::Core;
+use pipeline::state::Core;
 use refinement::perform::{Answer, Call, perform};
 use std::test::Fail;
 

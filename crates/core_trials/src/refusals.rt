@@ -3,7 +3,7 @@ use super::shown::{handed, mark, ran, state};
 use memory::bank::Bank;
 use memory::store::{Memory, Store};
 use pipeline::clock::Handed;
-use pipeline::core::Core;
+use pipeline::state::Core;
 use std::alloc::Global;
 use std::process::Abort;
 use std::test::Fail;

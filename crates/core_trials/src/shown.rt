@@ -1,7 +1,7 @@
 // What a core shows, in forms that can be compared.
 use pipeline::calls::{Ran, Refusal};
 use pipeline::clock::{Handed, Tick};
-use pipeline::core::Core;
+use pipeline::state::Core;
 
 /// Everything that the calls without a change answer: two registers, the flags, the clocks and the slots.
 pub fn state(core: &Core) -> (u32, u32, u8, u32, [Option<u32>; 4]) {

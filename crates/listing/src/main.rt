@@ -4,7 +4,7 @@
 use console::read_image;
 use image::{Image, ImageStore};
 use memory::bank::Bank;
-use pipeline::core::Core;
+use pipeline::state::Core;
 use report::clocking::clock_line;
 use std::io::{BufWriter, Write};
 

@@ -14,7 +14,7 @@ use Rattle.pipeline.specs.declared.calls.Ran.{Ran}
 use Rattle.pipeline.specs.declared.calls.Reason.{Reason}
 use Rattle.pipeline.specs.declared.calls.Reason.TheVariants.{Stop, ListFull, BudgetSpent, ClockLimit}
 use Rattle.pipeline.specs.declared.clock.Handed.{Handed}
-use Rattle.pipeline.specs.declared.core.Core.{Core}
+use Rattle.pipeline.specs.declared.state.Core.{Core}
 use Rattle.pipeline.specs.declared.slots.WritebackSlot.{WritebackSlot}
 use Rattle.stepper.specs.declared.event.Event.{Event}
 

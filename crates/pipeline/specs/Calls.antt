@@ -13,8 +13,8 @@ use Rattle.pipeline.specs.declared.calls.Refusal.TheVariants.{HasStopped, NoCloc
 use Rattle.pipeline.specs.declared.calls.SlotAddresses.{SlotAddresses}
 use Rattle.pipeline.specs.declared.clock.Handed.{Handed}
 use Rattle.pipeline.specs.declared.clock.Tick.{Tick}
-use Rattle.pipeline.specs.declared.core.Core.{Core}
-use Rattle.pipeline.specs.declared.core.Slots.{Slots}
+use Rattle.pipeline.specs.declared.state.Core.{Core}
+use Rattle.pipeline.specs.declared.state.Slots.{Slots}
 
 -- the most clocks between two resets
 abbrev pub most_clocks : ℕ

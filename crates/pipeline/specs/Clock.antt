@@ -13,8 +13,8 @@ use Rattle.pipeline.specs.ExecuteStage.{memory_write, executed}
 use Rattle.pipeline.specs.DecodeStage.{held_in, awaited, stalls, passing, to_execute}
 use Rattle.pipeline.specs.FetchStage.{is_pending, value_for_15, onward, slot_at, to_decode}
 use Rattle.pipeline.specs.declared.clock.Handed.{Handed}
-use Rattle.pipeline.specs.declared.core.Core.{Core}
-use Rattle.pipeline.specs.declared.core.Slots.{Slots}
+use Rattle.pipeline.specs.declared.state.Core.{Core}
+use Rattle.pipeline.specs.declared.state.Slots.{Slots}
 use Rattle.pipeline.specs.declared.execute_stage.Executed.{Executed}
 use Rattle.pipeline.specs.declared.signals.Signals.{Signals}
 use Rattle.pipeline.specs.declared.slots.WritebackSlot.{WritebackSlot}

@@ -7,7 +7,7 @@ ghost use Rattle.pipeline.specs.Clock.{machine, reset};
 ghost use Rattle.pipeline.specs.Calls.{refusal_number, reason_number, clock_refusal, run_refusal, addresses_in, stop_in, placed, end_of, Clocks, RunAnswers};
 
 use crate::clock::{Handed, Tick};
-use crate::core::Core;
+use crate::state::Core;
 use isa::flags::Flags;
 use memory::store::{Memory, Store};
 use stepper::event::{Event, Kind};

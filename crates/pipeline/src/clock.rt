@@ -4,13 +4,13 @@ ghost use Rattle.stepper.specs.Step.{setting};
 ghost use Rattle.pipeline.specs.Writeback.{handed_out};
 ghost use Rattle.pipeline.specs.Clock.{blank, stamped, machine, retired, signals_of, moved, clocked};
 
-use crate::core::{Core, Slots};
 use crate::decode_stage::{held_in, pass, stalls, to_execute};
 use crate::execute_stage::{Ahead, execute_stage, memory_write};
 use crate::fetch_stage::{Course, is_pending, value_for_15};
 use crate::memory_stage::memory_stage;
 use crate::signals::Signals;
 use crate::slots::WritebackSlot;
+use crate::state::{Core, Slots};
 use crate::writeback_stage::{event_of, holds_stop, register_of};
 use isa::flags::Flags;
 use memory::store::{Memory, Store};

@@ -3,11 +3,11 @@
 
 pub mod calls;
 pub mod clock;
-pub mod core;
 mod decode_stage;
 mod execute_stage;
 mod fetch_stage;
 mod memory_stage;
 pub mod signals;
 mod slots;
+pub mod state;
 mod writeback_stage;

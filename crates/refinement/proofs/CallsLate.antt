@@ -15,7 +15,7 @@ use Rattle.pipeline.specs.declared.calls.Refusal.{Refusal}
 use Rattle.pipeline.specs.declared.calls.Refusal.TheVariants.{HasStopped, NoClocksLeft}
 use Rattle.pipeline.specs.declared.clock.Handed.{Handed}
 use Rattle.pipeline.specs.declared.clock.Tick.{Tick}
-use Rattle.pipeline.specs.declared.core.Core.{Core}
+use Rattle.pipeline.specs.declared.state.Core.{Core}
 use Rattle.refinement.specs.CallLists.{Made, ClockMade, RunMade, RegisterMade, FlagsMade, SlotsMade, Promised, clock_hands, run_hands, handed_in, Leads, nothing_made, one_more, CallsRunLate}
 use Rattle.refinement.specs.Lateness.{after_clocks, handed_out, RunsLate}
 use Rattle.refinement.proofs.Late.{core_runs_late}

@@ -19,7 +19,7 @@ use Rattle.pipeline.specs.ExecuteStage.{memory_write, taken_by}
 use Rattle.pipeline.specs.DecodeStage.{held_in, awaited, stalls, passing, to_execute}
 use Rattle.pipeline.specs.FetchStage.{in_decode, is_pending, is_write_15, value_for_15, onward, to_decode}
 use Rattle.pipeline.specs.Clock.{stamped, Machine, Clocked, machine, retired, halted as stopped, flushed, executing, moved, behind_memory, behind_writeback, clocked}
-use Rattle.pipeline.specs.declared.core.Core.{Core}
+use Rattle.pipeline.specs.declared.state.Core.{Core}
 use Rattle.pipeline.specs.declared.slots.DecodeSlot.{DecodeSlot}
 use Rattle.pipeline.specs.declared.slots.ExecuteSlot.{ExecuteSlot}
 use Rattle.pipeline.specs.declared.slots.MemorySlot.{MemorySlot}

@@ -8,8 +8,8 @@ use Rattle.stepper.specs.declared.event.Event.{Event}
 use Rattle.stepper.specs.declared.event.Stop.{Stop}
 use Rattle.pipeline.specs.DecodeStage.{understood, word_in, reading, issued}
 use Rattle.pipeline.specs.FetchStage.{in_decode, is_write_15, slot_at}
-use Rattle.pipeline.specs.declared.core.Core.{Core}
-use Rattle.pipeline.specs.declared.core.Slots.{Slots}
+use Rattle.pipeline.specs.declared.state.Core.{Core}
+use Rattle.pipeline.specs.declared.state.Slots.{Slots}
 use Rattle.pipeline.specs.declared.slots.DecodeSlot.{DecodeSlot}
 use Rattle.pipeline.specs.declared.slots.ExecuteSlot.{ExecuteSlot}
 use Rattle.pipeline.specs.declared.slots.MemorySlot.{MemorySlot}

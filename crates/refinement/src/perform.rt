@@ -9,7 +9,7 @@ use isa::flags::Flags;
 use memory::store::{Memory, Store};
 use pipeline::calls::{Ran, Refusal, SlotAddresses};
 use pipeline::clock::{Handed, Tick};
-use pipeline::core::Core;
+use pipeline::state::Core;
 use std::alloc::{AllocError, Global};
 use stepper::registers::UnknownRegister;
 

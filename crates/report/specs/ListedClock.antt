@@ -3,7 +3,7 @@ use Rattle.std.specs.Prelude.{◌≡◌, ℕ, List, Ok, Err, Result}
 use Rattle.pipeline.specs.Calls.{addresses_in}
 use Rattle.pipeline.specs.declared.calls.Refusal.{Refusal}
 use Rattle.pipeline.specs.declared.clock.Tick.{Tick}
-use Rattle.pipeline.specs.declared.core.Core.{Core}
+use Rattle.pipeline.specs.declared.state.Core.{Core}
 use Rattle.report.specs.Buffer.{BeginsWith}
 use Rattle.report.specs.ListingLine.{line_text}
 use Rattle.report.specs.declared.clocking.Listed.{Listed}

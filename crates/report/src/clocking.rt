@@ -10,7 +10,7 @@ use super::line::line;
 use memory::store::{Memory, Store};
 use pipeline::calls::Refusal;
 use pipeline::clock::Tick;
-use pipeline::core::Core;
+use pipeline::state::Core;
 
 /// What a clock answered, and the length of its line.
 #[derive(Clone, Copy)]

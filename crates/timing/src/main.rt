@@ -8,7 +8,7 @@ use law::due::{Due, Lost, due_clocks};
 use lines::{instruction_column, kind_column};
 use memory::bank::Bank;
 use pipeline::clock::Handed;
-use pipeline::core::Core;
+use pipeline::state::Core;
 use refinement::perform::{Call, Performance, perform};
 use stepper::event::{Event, Kind};
 use stepper::run::run;

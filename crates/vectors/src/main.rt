@@ -7,7 +7,7 @@ use image::{Image, ImageStore, OpenError};
 use lines::Line;
 use memory::bank::Bank;
 use memory::store::{Memory, Store};
-use pipeline::core::Core;
+use pipeline::state::Core;
 use report::clocking::clock_line;
 use std::io::{BufWriter, Read, Write};
 use stepper::run::run;

@@ -5,12 +5,18 @@ use Rattle.law.proofs.due.due_clocks.Goals as goal
 
 pub loop-event-init : goal.loop-event-init
 loop-event-init c =
-    subst (λ d. Sofar c.args.events.now 0 (vec_items c.new-table.result) d None) (sym c.nothing_due.ensures) (begins c.args.events.now (vec_items c.new-table.result) c.new-table.ensures.items)
+    subst (λ d. Sofar c.args.events.now 0 (vec_items c.new-table.result) d None) (sym c.nothing-due.ensures) (begins c.args.events.now (vec_items c.new-table.result) c.new-table.ensures.items)
 
 pub further-due-requires : goal.further-due-requires
 further-due-requires c =
     let small = c.loop-event.invariant.small in
-    (omega (arith, small.clock), omega (arith, small.stalls), omega (arith, small.branches), omega (arith, small.done_writes), omega (arith, small.skipped_writes))
+    record {
+      clock_bound = omega (arith, small.clock);
+      stalls_bound = omega (arith, small.stalls);
+      branches_bound = omega (arith, small.branches);
+      done_writes_bound = omega (arith, small.done_writes);
+      skipped_writes_bound = omega (arith, small.skipped_writes);
+    }
 
 pub loop-event-preserved : goal.loop-event-preserved
 loop-event-preserved c =

@@ -3,9 +3,9 @@ use Rattle.stepper.specs.Step.{setting}
 use Rattle.pipeline.specs.Clock.{machine, clocked}
 use Rattle.pipeline.specs.Calls.{end_of, stop_in}
 use Rattle.pipeline.proofs.Placing.{Then, accepted, starts, clock_more, again, ends}
-use Rattle.pipeline.proofs.core.Core.run.Given as given
-use Rattle.pipeline.proofs.core.Core.run.Goals as goal
-use Rattle.pipeline.proofs.core.Core.run.Goals.{After-place-written}
+use Rattle.pipeline.proofs.state.Core.run.Given as given
+use Rattle.pipeline.proofs.state.Core.run.Goals as goal
+use Rattle.pipeline.proofs.state.Core.run.Goals.{After-place-written}
 
 -- what one turn leaves
 turned : (g : given.Over) (c : After-place-written g) → Then (setting (g.S.Store.word_at c.args.store.now) (g.S.Store.tag_at c.args.store.now) (g.M.Store.tag_at c.args.memory.now) (g.M.Memory.writable_at c.args.memory.now)) (machine c.args.self.now (g.M.Store.word_at c.args.memory.now)) c.args.budget c.args.list.now c.clocks.made c.place-written.result (machine c.tick-tick.new.self (g.M.Store.word_at c.tick-tick.new.memory)) c.place-written.new.list c.tick-tick.result.handed

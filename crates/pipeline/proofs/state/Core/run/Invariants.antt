@@ -2,7 +2,7 @@ use Rattle.std.proofs.Common.{◌≡◌, ◌-◌, ◌≤◌}
 use Rattle.stepper.specs.Step.{setting}
 use Rattle.pipeline.specs.Clock.{machine}
 use Rattle.pipeline.proofs.Placing.{Sofar}
-use Rattle.pipeline.proofs.core.Core.run.Given as goal
+use Rattle.pipeline.proofs.state.Core.run.Given as goal
 
 abbrev pub invariant-clocks : goal.invariant-clocks
 invariant-clocks g l =

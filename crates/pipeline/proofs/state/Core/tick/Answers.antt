@@ -3,7 +3,7 @@ use Rattle.stepper.specs.Step.{setting}
 use Rattle.pipeline.specs.Clock.{stamped, behind_writeback}
 use Rattle.pipeline.specs.Writeback.{handed_out}
 use Rattle.pipeline.proofs.Ticking.{goes_through}
-use Rattle.pipeline.proofs.core.Core.tick.Goals as goal
+use Rattle.pipeline.proofs.state.Core.tick.Goals as goal
 
 pub returns : goal.returns
 returns g c =
