@@ -1,5 +1,5 @@
 -- An image of one block, written out from the words that it carries.
-use Rattle.std.specs.Prelude.{ℕ, ◌+◌, ◌-◌, ◌*◌, ◌/◌, ◌%◌, ◌^◌, List, [], ◌∷◌, ◌++◌, length, replicate, sum}
+use Rattle.std.specs.Prelude.{ℕ, ◌-◌, ◌*◌, ◌/◌, ◌%◌, ◌^◌, List, [], ◌∷◌, ◌++◌, length, replicate, sum}
 use Rattle.std.specs.List.{flat_map}
 
 -- all but the check word: place 0 and the count, the words, and zeros

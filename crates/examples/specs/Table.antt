@@ -5,7 +5,6 @@ use Rattle.isa.specs.Registers.{register}
 use Rattle.isa.specs.declared.condition.Condition.TheVariants.{Al}
 use Rattle.isa.specs.declared.instruction.Action.TheVariants.{Data}
 use Rattle.isa.specs.declared.instruction.DataProcessing.{DataProcessing}
-use Rattle.isa.specs.declared.instruction.Instruction.{Instruction}
 use Rattle.isa.specs.declared.instruction.Operand.TheVariants.{Register as InRegister}
 use Rattle.isa.specs.declared.operation.Operation.TheVariants.{Add}
 use Rattle.stepper.specs.declared.event.Event.{Event}

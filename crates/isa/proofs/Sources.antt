@@ -1,17 +1,15 @@
 -- The sources of an instruction stand in fields of its word.
-use Rattle.std.proofs.Common.{◌≡◌, ℕ, ◌/◌, ◌%◌, ◌^◌, ℤ, pos, negsuc, Some, sym, refl, ap, ◌∙◌, arith}
+use Rattle.std.proofs.Common.{◌≡◌, ℕ, ◌/◌, ◌%◌, ◌^◌, ℤ, pos, negsuc, sym, refl, ap, ◌∙◌, arith}
 use Rattle.isa.proofs.Naming.{same_register, named}
 use Rattle.isa.proofs.Writing.{instruction_written}
-use Rattle.isa.specs.Decoding.{decoded}
 use Rattle.isa.specs.Encoding.{action_fields, operand_fields}
 use Rattle.isa.specs.Laws.{Reads, first_field, second_field, SourcesStandInWords}
-use Rattle.isa.specs.Layout.{RN, RD, RM, CONSTANT, OFFSET, DISTANCE, field}
+use Rattle.isa.specs.Layout.{RN, RD, RM, field}
 use Rattle.isa.specs.Registers.{register}
 use Rattle.isa.specs.Roles.{first_source, second_source, low_register}
 use Rattle.isa.specs.TwosComplement.{low_bits}
 use Rattle.isa.specs.declared.instruction.Action.{Action}
 use Rattle.isa.specs.declared.instruction.Action.TheVariants.{Data, Load, Store, Branch}
-use Rattle.isa.specs.declared.instruction.Instruction.{Instruction}
 use Rattle.isa.specs.declared.instruction.Operand.{Operand}
 use Rattle.isa.specs.declared.instruction.Operand.TheVariants.{Constant, Register as InRegister}
 use Rattle.isa.specs.declared.register.Register.{Register}

@@ -1,11 +1,11 @@
 -- What a bank means: lent words from a base address on, one every four bytes.
-use Rattle.std.specs.Prelude.{◌≡◌, ℕ, ◌+◌, ◌-◌, ◌*◌, ◌/◌, ◌%◌, ◌^◌, ◌<◌, ◌≤◌, Bool, true, false, cond, ◌||◌, List, length, is_some, is_ok, Some, None, Ok, Err, Option, Result, nat_le, nat_lt, slice_index, slice_set}
+use Rattle.std.specs.Prelude.{ℕ, ◌+◌, ◌-◌, ◌*◌, ◌/◌, ◌^◌, Bool, true, cond, ◌||◌, List, length, is_ok, Some, None, Ok, Err, Option, Result, nat_le, nat_lt, slice_index, slice_set}
 use Rattle.std.specs.Option.{option_map}
 use Rattle.memory.specs.declared.bank.BankRefusal.{BankRefusal}
 use Rattle.memory.specs.declared.bank.BankRefusal.TheVariants.{Count, Base, End}
 use Rattle.memory.specs.declared.fault.Cause.TheVariants.{Unaligned}
 use Rattle.memory.specs.declared.fault.Fault.{Fault}
-use Rattle.memory.specs.Meaning.{Words, WordAddress, aligned, answer, refuse, one_tag}
+use Rattle.memory.specs.Meaning.{Words, aligned, answer, refuse, one_tag}
 
 -- the number by which users know the refusal of a bank's figures
 abbrev pub refusal_number : BankRefusal → ℕ

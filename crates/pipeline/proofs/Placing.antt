@@ -1,5 +1,5 @@
 -- What a run writes into its list, and the clocks that it is. Assumes nothing.
-use Rattle.std.proofs.Common.{◌≡◌, ℕ, suc, ◌+◌, ◌<◌, ◌≤◌, Bool, true, false, cond, eqb, leb, List, [], ◌∷◌, ◌++◌, length, take, drop, Some, None, Option, sym, refl, ap, ◌∙◌, ⊎_elim, append_assoc, add-zero, add-one, arith, length-append, length-drop, take-append-drop}
+use Rattle.std.proofs.Common.{◌≡◌, ℕ, suc, ◌+◌, ◌<◌, ◌≤◌, false, eqb, leb, List, ◌∷◌, ◌++◌, length, take, drop, Some, None, Option, sym, refl, ap, ◌∙◌, ⊎_elim, append_assoc, add-zero, add-one, arith, length-append, length-drop, take-append-drop}
 use Rattle.std.specs.Option.{option_to_list}
 use Rattle.std.proofs.lemmas.List.{set_split, take_at, drop_at, drop-drop}
 use Rattle.std.proofs.lemmas.Bool.{both_ways, cases_lt, cond_both, cond-false, eqb-false, leb-false}
@@ -10,9 +10,7 @@ use Rattle.pipeline.specs.Clock.{Machine, Clocked, stamped, retired, behind_writ
 use Rattle.pipeline.specs.MemoryStage.{to_writeback}
 use Rattle.pipeline.specs.Writeback.{handed_out, hands_out_stop}
 use Rattle.pipeline.specs.Calls.{most_clocks, run_refusal, tick, handed_by, onward, handed_on, stop_in, placed, end_of, end_after, Runs}
-use Rattle.pipeline.specs.declared.calls.Ran.{Ran}
 use Rattle.pipeline.specs.declared.calls.Reason.{Reason}
-use Rattle.pipeline.specs.declared.calls.Reason.TheVariants.{Stop, ListFull, BudgetSpent, ClockLimit}
 use Rattle.pipeline.specs.declared.clock.Handed.{Handed}
 use Rattle.pipeline.specs.declared.state.Core.{Core}
 use Rattle.pipeline.specs.declared.slots.WritebackSlot.{WritebackSlot}

@@ -5,7 +5,7 @@ use Rattle.memory.specs.Meaning.{Words}
 use Rattle.stepper.specs.Step.{Setting}
 use Rattle.pipeline.specs.Writeback.{handed_out, hands_out_stop}
 use Rattle.pipeline.specs.MemoryStage.{to_writeback, words_left}
-use Rattle.pipeline.specs.Clock.{stamped, Machine, Clocked, machine, moved, signals_of, behind_memory, behind_writeback}
+use Rattle.pipeline.specs.Clock.{stamped, Clocked, machine, moved, signals_of, behind_memory, behind_writeback}
 use Rattle.pipeline.specs.declared.clock.Handed.{Handed}
 use Rattle.pipeline.specs.declared.state.Core.{Core}
 use Rattle.pipeline.specs.declared.signals.Signals.{Signals}

@@ -1,5 +1,5 @@
 -- Fetch: which word comes next, if any.
-use Rattle.std.specs.Prelude.{ℕ, Bool, true, false, cond, ◌||◌, Some, None, Ok, Err, Option, Result, ◌==◌}
+use Rattle.std.specs.Prelude.{ℕ, Bool, false, cond, ◌||◌, Some, None, Ok, Err, Option, Result, ◌==◌}
 use Rattle.memory.specs.Meaning.{Words, Tags, reading}
 use Rattle.isa.specs.Roles.{destination_of, is_15}
 use Rattle.isa.specs.declared.instruction.Instruction.{Instruction}

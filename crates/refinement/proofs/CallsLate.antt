@@ -1,5 +1,5 @@
 -- Any list of calls is some number of clocks. Assumes nothing.
-use Rattle.std.proofs.Common.{◌≡◌, ℕ, zero, suc, ◌+◌, Bool, true, false, cond, leb, List, [], ◌∷◌, ◌++◌, length, take, drop, Some, None, Ok, Err, Option, Result, sym, refl, ap, ◌∙◌, subst, append_assoc, append-nil, add-zero, add-suc, arith}
+use Rattle.std.proofs.Common.{◌≡◌, ℕ, zero, suc, ◌+◌, false, List, [], ◌∷◌, ◌++◌, take, drop, Some, None, Ok, Err, Option, Result, sym, refl, ap, ◌∙◌, subst, append_assoc, append-nil, add-zero, add-suc, arith}
 use Rattle.std.specs.Option.{option_to_list}
 use Rattle.std.specs.List.{flat_map}
 use Rattle.std.proofs.lemmas.List.{flat_map_more, take_at}
@@ -8,16 +8,15 @@ use Rattle.std.proofs.lemmas.Bool.Decides.{nat_tests}
 use Rattle.memory.specs.Meaning.{Words}
 use Rattle.stepper.specs.Alike.{SameMeanings}
 use Rattle.stepper.specs.Step.{Setting}
-use Rattle.pipeline.specs.Calls.{clock_refusal, most_clocks, tick, handed_by, onward, handed_on, answered, unless_refused, Clocks, Runs, RunAnswers}
+use Rattle.pipeline.specs.Calls.{clock_refusal, tick, handed_by, onward, handed_on, answered, unless_refused, RunAnswers}
 use Rattle.pipeline.specs.Clock.{Machine, machine, reset, clocked}
 use Rattle.pipeline.specs.declared.calls.Ran.{Ran}
 use Rattle.pipeline.specs.declared.calls.Refusal.{Refusal}
-use Rattle.pipeline.specs.declared.calls.Refusal.TheVariants.{HasStopped, NoClocksLeft}
 use Rattle.pipeline.specs.declared.clock.Handed.{Handed}
 use Rattle.pipeline.specs.declared.clock.Tick.{Tick}
 use Rattle.pipeline.specs.declared.state.Core.{Core}
 use Rattle.refinement.specs.CallLists.{Made, ClockMade, RunMade, RegisterMade, FlagsMade, SlotsMade, Promised, clock_hands, run_hands, handed_in, Leads, nothing_made, one_more, CallsRunLate}
-use Rattle.refinement.specs.Lateness.{after_clocks, handed_out, RunsLate}
+use Rattle.refinement.specs.Lateness.{after_clocks, RunsLate}
 use Rattle.refinement.proofs.Late.{core_runs_late}
 
 -- a clock that is not refused is made by a core that has not stopped

@@ -1,11 +1,11 @@
 -- The clock law, one event at a time. Assumes nothing.
-use Rattle.std.proofs.Common.{◌≡◌, ℕ, zero, suc, ◌+◌, ◌-◌, ◌*◌, ◌<◌, ◌≤◌, Bool, true, false, cond, List, [], ◌∷◌, ◌++◌, length, take, count_by, sym, refl, ap, ◌∙◌, arith}
+use Rattle.std.proofs.Common.{◌≡◌, ℕ, zero, suc, ◌+◌, ◌-◌, ◌*◌, Bool, true, false, cond, List, [], ◌∷◌, ◌++◌, length, take, count_by, sym, refl, ap, ◌∙◌, arith}
 use Rattle.std.proofs.lemmas.List.{take_at, length_push}
 use Rattle.std.proofs.lemmas.List.Sums.{sum_by_push}
 use Rattle.std.proofs.lemmas.Bool.{false≢true}
 use Rattle.memory.specs.Meaning.{Words}
 use Rattle.stepper.specs.Step.{Setting, World}
-use Rattle.stepper.specs.Run.{advance, event_of, after_steps, first_events}
+use Rattle.stepper.specs.Run.{event_of, after_steps, first_events}
 use Rattle.stepper.specs.declared.event.Event.{Event}
 use Rattle.refinement.specs.ClockLaw.{taken_branch, done_write_15, skipped_write_15, feeds, bit, load_uses, but_last, clock_of}
 use Rattle.refinement.proofs.View.{halted, next, ev, gap}

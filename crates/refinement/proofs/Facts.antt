@@ -1,13 +1,12 @@
 -- What the core makes of one instruction beside what the stepper makes of it. Assumes nothing.
-use Rattle.std.proofs.Common.{◌≡◌, ℕ, ◌+◌, ◌%◌, ◌^◌, Bool, true, false, cond, ◌&&◌, ◌||◌, eqb, List, is_some, is_ok, Some, None, Ok, Err, Option, Result, sym, refl, ap, ◌∙◌, arith}
+use Rattle.std.proofs.Common.{◌≡◌, ℕ, Bool, true, false, cond, ◌&&◌, ◌||◌, eqb, is_some, is_ok, Some, None, Ok, Err, Option, Result, sym, refl, ap, ◌∙◌, arith}
 use Rattle.std.proofs.lemmas.Bool.Decides.{nat_tests}
 use Rattle.std.specs.Result.{result_ok}
-use Rattle.memory.specs.Meaning.{Words, Tags, put, reading as read, writing}
+use Rattle.memory.specs.Meaning.{Tags, put, reading as read, writing}
 use Rattle.memory.specs.declared.fault.Fault.{Fault}
-use Rattle.isa.specs.Arithmetic.{result_of, flags_after}
 use Rattle.isa.specs.Conditions.{condition_holds}
 use Rattle.isa.specs.Decoding.{decoded}
-use Rattle.isa.specs.Roles.{destination_of, is_15, is_source, first_source, second_source}
+use Rattle.isa.specs.Roles.{destination_of, is_15}
 use Rattle.isa.specs.declared.condition.Condition.{Condition}
 use Rattle.isa.specs.declared.flags.Flags.{Flags}
 use Rattle.isa.specs.declared.instruction.Action.{Action}
@@ -16,25 +15,22 @@ use Rattle.isa.specs.declared.instruction.Instruction.{Instruction}
 use Rattle.isa.specs.declared.register.Register.{Register}
 use Rattle.stepper.specs.Access.{loaded, stored, words_after}
 use Rattle.stepper.specs.Execute.{work_of, flags_of, to_write}
-use Rattle.stepper.specs.Registers.{read_at, written}
+use Rattle.stepper.specs.Registers.{written}
 use Rattle.stepper.specs.Step.{World, Turn, behind, stopping, skipping, finishing, doing, understanding, fetching}
-use Rattle.stepper.specs.declared.access.Effect.{Effect}
-use Rattle.stepper.specs.declared.event.Event.{Event}
 use Rattle.stepper.specs.declared.event.MemoryWrite.{MemoryWrite}
-use Rattle.stepper.specs.declared.event.RegisterWrite.{RegisterWrite}
 use Rattle.stepper.specs.declared.event.Stop.{Stop}
-use Rattle.stepper.specs.declared.event.Stop.TheVariants.{Fetch, Outside, Access}
+use Rattle.stepper.specs.declared.event.Stop.TheVariants.{Fetch, Outside}
 use Rattle.stepper.specs.declared.execute.Work.{Work}
-use Rattle.stepper.specs.declared.execute.Work.TheVariants.{Compare, Write, Load as ToLoad, Store as ToStore, Branch as ToBranch}
+use Rattle.stepper.specs.declared.execute.Work.TheVariants.{Load as ToLoad, Store as ToStore}
 use Rattle.pipeline.specs.Writeback.{is_stop}
 use Rattle.pipeline.specs.MemoryStage.{accessed_or, completed, event_of, words_of}
 use Rattle.pipeline.specs.ExecuteStage.{pending_write, taking, performed, taken_by}
 use Rattle.pipeline.specs.DecodeStage.{in_subset, understood, word_in, reading, loaded_by}
-use Rattle.pipeline.specs.FetchStage.{in_decode, value_for_15, is_write_15}
+use Rattle.pipeline.specs.FetchStage.{value_for_15, is_write_15}
 use Rattle.pipeline.specs.declared.slots.Issue.{Issue}
 use Rattle.pipeline.specs.declared.slots.MemorySlot.{MemorySlot}
 use Rattle.pipeline.specs.declared.slots.Pending.TheVariants.{Done, Skipped, Stopped}
-use Rattle.refinement.specs.ClockLaw.{was_read, which, is_done, is_skipped, is_branch, writes_15, brought_by, brought}
+use Rattle.refinement.specs.ClockLaw.{which, is_done, is_skipped, is_branch, writes_15, brought_by, brought}
 
 -- where the program goes on: at a branch's target, at the value of register 15, or behind
 abbrev pub goes_to : ℕ → Option ℕ → Option ℕ → ℕ

@@ -1,26 +1,24 @@
 -- Execute works with the registers of the stepper, whatever is still under way. Assumes nothing.
-use Rattle.std.proofs.Common.{◌≡◌, ℕ, ◌+◌, ◌≤◌, Bool, true, false, cond, ◌||◌, eqb, List, length, Some, None, Ok, Err, Option, Result, sym, refl, ap, ◌∙◌, arith}
+use Rattle.std.proofs.Common.{◌≡◌, ℕ, ◌+◌, Bool, true, false, eqb, List, length, Some, None, Ok, Err, Option, Result, sym, refl, ap, ◌∙◌, arith}
 use Rattle.std.specs.Result.{result_ok}
 use Rattle.std.proofs.lemmas.Bool.{or_parts, false≢true}
-use Rattle.isa.specs.Roles.{is_source, first_source, second_source}
+use Rattle.isa.specs.Roles.{first_source, second_source}
 use Rattle.isa.specs.declared.flags.Flags.{Flags}
 use Rattle.isa.specs.declared.instruction.Instruction.{Instruction}
 use Rattle.isa.specs.declared.register.Register.{Register}
-use Rattle.stepper.specs.Registers.{read_at, written}
+use Rattle.stepper.specs.Registers.{read_at}
 use Rattle.stepper.specs.Step.{Setting, World}
 use Rattle.stepper.specs.declared.event.RegisterWrite.{RegisterWrite}
 use Rattle.stepper.specs.declared.event.Stop.{Stop}
 use Rattle.pipeline.specs.Writeback.{register_of}
 use Rattle.pipeline.specs.ExecuteStage.{memory_write, taking, operand, performed, taken_by, issued_on, executed}
 use Rattle.pipeline.specs.DecodeStage.{reading}
-use Rattle.pipeline.specs.FetchStage.{is_write_15}
 use Rattle.pipeline.specs.declared.execute_stage.Executed.{Executed}
-use Rattle.pipeline.specs.declared.slots.Issue.{Issue}
 use Rattle.pipeline.specs.declared.slots.MemorySlot.{MemorySlot}
-use Rattle.refinement.specs.ClockLaw.{load_of, needs, feeds}
+use Rattle.refinement.specs.ClockLaw.{load_of, needs}
 use Rattle.refinement.proofs.Facts.{alone, hits}
 use Rattle.refinement.proofs.Stages.{read_after}
-use Rattle.refinement.proofs.View.{regs, pc, halted, next, ev, held_at, issue_at, memory_at, gap, on, due, mslot, wslot}
+use Rattle.refinement.proofs.View.{regs, pc, halted, next, ev, held_at, issue_at, memory_at, on, due, mslot, wslot}
 use Rattle.refinement.proofs.Quiet.{of, instr, is_load, near, close, quiet_writeback, regs_on, long_on}
 
 -- a load that is not needed brings none of the two sources

@@ -8,7 +8,7 @@ use Rattle.isa.specs.Decoding.{decoded}
 use Rattle.isa.specs.Roles.{first_source, second_source}
 use Rattle.isa.specs.declared.flags.Flags.{Flags}
 use Rattle.isa.specs.declared.instruction.Instruction.{Instruction}
-use Rattle.stepper.specs.Access.{accessed, words_after}
+use Rattle.stepper.specs.Access.{accessed}
 use Rattle.stepper.specs.Execute.{work_of, flags_of}
 use Rattle.stepper.specs.Registers.{read_at}
 use Rattle.stepper.specs.Step.{World, Turn, skipping, finishing, doing, understanding, fetching}

@@ -1,17 +1,15 @@
 -- What a clock makes of Execute, Decode and the fetch address, case by case. Assumes nothing.
-use Rattle.std.proofs.Common.{◌≡◌, ℕ, Bool, true, false, cond, ◌||◌, List, Some, None, Option, Result, sym, refl, ap, ◌∙◌}
-use Rattle.isa.specs.declared.instruction.Instruction.{Instruction}
+use Rattle.std.proofs.Common.{◌≡◌, ℕ, Bool, true, false, cond, ◌||◌, List, Some, None, Option, refl, ap, ◌∙◌}
 use Rattle.stepper.specs.Step.{Setting, behind}
 use Rattle.stepper.specs.declared.event.RegisterWrite.{RegisterWrite}
-use Rattle.stepper.specs.declared.event.Stop.{Stop}
 use Rattle.pipeline.specs.Slots.{changed}
-use Rattle.pipeline.specs.DecodeStage.{held_in, awaited, stalls, passing, to_execute, understood}
-use Rattle.pipeline.specs.FetchStage.{in_decode, in_execute, is_pending, is_write_15, value_for_15, onward, to_decode}
+use Rattle.pipeline.specs.DecodeStage.{held_in, awaited, stalls, passing, to_execute}
+use Rattle.pipeline.specs.FetchStage.{in_decode, is_pending, is_write_15, value_for_15, onward, to_decode}
 use Rattle.pipeline.specs.declared.slots.Change.TheVariants.{Empty, Fill}
 use Rattle.pipeline.specs.declared.slots.DecodeSlot.{DecodeSlot}
 use Rattle.pipeline.specs.declared.slots.ExecuteSlot.{ExecuteSlot}
 use Rattle.refinement.proofs.Stages.{no_load, issue_writes, no_value}
-use Rattle.refinement.proofs.View.{Front, idle, fetched, issuing, redirect, dead, slot, held_at, writes, issue_at, in_execute_of, in_decode_of, fetch_of}
+use Rattle.refinement.proofs.View.{Front, idle, fetched, issuing, redirect, slot, held_at, writes, issue_at, in_execute_of, in_decode_of, fetch_of}
 
 or_false : (b : Bool) → (b || false) ≡ b
 or_false true = refl

@@ -1,12 +1,10 @@
 -- How many clocks lie between an event and the next, by what the instruction is. Assumes nothing.
-use Rattle.std.proofs.Common.{◌≡◌, ℕ, ◌+◌, ◌*◌, Bool, true, false, cond, ◌&&◌, ◌||◌, eqb, Some, None, Ok, Err, Option, Result, sym, refl, ap, ◌∙◌, arith}
+use Rattle.std.proofs.Common.{◌≡◌, ℕ, ◌+◌, ◌*◌, true, false, cond, ◌&&◌, ◌||◌, Some, None, Ok, Err, Option, Result, refl, ap, ◌∙◌, arith}
 use Rattle.std.specs.Result.{result_ok}
 use Rattle.std.proofs.lemmas.Bool.{false≢true}
-use Rattle.isa.specs.Roles.{destination_of, is_15}
 use Rattle.isa.specs.declared.instruction.Action.{Action}
 use Rattle.isa.specs.declared.instruction.Action.TheVariants.{Data, Load, Store, Branch}
 use Rattle.isa.specs.declared.instruction.Instruction.{Instruction}
-use Rattle.isa.specs.declared.register.Register.{Register}
 use Rattle.stepper.specs.Step.{Setting, World}
 use Rattle.stepper.specs.declared.event.Kind.{Kind}
 use Rattle.stepper.specs.declared.event.Kind.TheVariants.{Done, Skipped, Stopped}

@@ -1,20 +1,18 @@
 -- The core runs the stepper's routine late. Assumes nothing.
-use Rattle.std.proofs.Common.{◌≡◌, ℕ, zero, suc, ◌+◌, ◌-◌, ◌<◌, ◌≤◌, Bool, true, false, cond, ◌⊎◌, List, [], ◌∷◌, ◌++◌, map, length, get_or, is_some, Some, None, Option, sym, refl, ap, ◌∙◌, subst, inl, inr, ⊎_elim, append-nil, add-zero, add-suc, add-one, arith, length-append}
+use Rattle.std.proofs.Common.{◌≡◌, ℕ, zero, suc, ◌+◌, ◌-◌, ◌<◌, ◌≤◌, Bool, true, false, cond, List, [], ◌∷◌, ◌++◌, map, length, get_or, is_some, None, sym, refl, ap, ◌∙◌, subst, ⊎_elim, append-nil, add-zero, add-suc, add-one, arith}
 use lib.ListN.{length-map}
 use Rattle.std.specs.Option.{option_to_list}
 use Rattle.std.proofs.lemmas.List.{length_push, map_push, get_or_append_left, get_or_push}
-use Rattle.std.proofs.lemmas.Bool.{false≢true, true≢false, cases_lt}
+use Rattle.std.proofs.lemmas.Bool.{false≢true, cases_lt}
 use Rattle.memory.specs.Meaning.{Words}
-use Rattle.stepper.specs.Step.{Setting, World, start}
-use Rattle.stepper.specs.Run.{after_steps, first_events, event_of}
-use Rattle.stepper.specs.declared.event.Event.{Event}
-use Rattle.pipeline.specs.Clock.{stamped, Machine, machine, reset, clocked}
-use Rattle.pipeline.specs.Writeback.{handed_out as event_in}
+use Rattle.stepper.specs.Step.{Setting, World}
+use Rattle.stepper.specs.Run.{first_events}
+use Rattle.pipeline.specs.Clock.{Machine, machine, reset, clocked}
 use Rattle.pipeline.specs.declared.clock.Handed.{Handed}
 use Rattle.refinement.specs.ClockLaw.{bit, clock_of}
 use Rattle.refinement.specs.Lateness.{tick, handed_by, after_clocks, handed_out, HandedIn, HasEvent, RunsLate, CoreRunsLate}
-use Rattle.refinement.proofs.View.{Front, idle, fetched, issuing, redirect, dead, halted, regs, next, ev, gap, on, due, mslot, wslot, view, Flight}
-use Rattle.refinement.proofs.OneClock.{Goes, one_clock}
+use Rattle.refinement.proofs.View.{Front, idle, fetched, issuing, redirect, dead, halted, regs, ev, gap, on, mslot, wslot, view, Flight}
+use Rattle.refinement.proofs.OneClock.{one_clock}
 use Rattle.refinement.proofs.Counting.{W, due_at, went_on, goes, says, law}
 
 module _ (s : Setting) where

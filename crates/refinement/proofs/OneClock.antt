@@ -1,13 +1,11 @@
 -- One clock takes a flight to the next. Assumes nothing.
-use Rattle.std.proofs.Common.{◌≡◌, ℕ, ◌+◌, ◌*◌, ◌<◌, ◌≤◌, Bool, true, false, cond, ◌&&◌, ◌||◌, List, length, is_some, Some, None, Option, Result, sym, refl, ap, ◌∙◌, subst, arith}
+use Rattle.std.proofs.Common.{◌≡◌, ℕ, ◌+◌, ◌≤◌, Bool, true, false, cond, ◌&&◌, ◌||◌, List, is_some, Some, None, Option, sym, refl, ap, ◌∙◌, subst, arith}
 use Rattle.std.specs.Result.{result_ok}
 use Rattle.std.proofs.lemmas.Bool.{false≢true, true≢false, cond-true, cond-false}
-use Rattle.memory.specs.Meaning.{Words, Tags}
+use Rattle.memory.specs.Meaning.{Words}
 use Rattle.isa.specs.declared.instruction.Instruction.{Instruction}
 use Rattle.isa.specs.declared.flags.Flags.{Flags}
-use Rattle.stepper.specs.Registers.{written}
 use Rattle.stepper.specs.Step.{Setting, World, behind}
-use Rattle.stepper.specs.declared.event.Event.{Event}
 use Rattle.stepper.specs.declared.event.Kind.{Kind}
 use Rattle.stepper.specs.declared.event.Kind.TheVariants.{Done, Skipped, Stopped}
 use Rattle.stepper.specs.declared.event.RegisterWrite.{RegisterWrite}
@@ -17,8 +15,8 @@ use Rattle.pipeline.specs.Writeback.{handed_out, register_of, hands_out_stop, is
 use Rattle.pipeline.specs.MemoryStage.{to_writeback, words_left}
 use Rattle.pipeline.specs.ExecuteStage.{memory_write, taken_by}
 use Rattle.pipeline.specs.DecodeStage.{held_in, awaited, stalls, passing, to_execute}
-use Rattle.pipeline.specs.FetchStage.{in_decode, is_pending, is_write_15, value_for_15, onward, to_decode}
-use Rattle.pipeline.specs.Clock.{stamped, Machine, Clocked, machine, retired, halted as stopped, flushed, executing, moved, behind_memory, behind_writeback, clocked}
+use Rattle.pipeline.specs.FetchStage.{is_pending, is_write_15, value_for_15, onward, to_decode}
+use Rattle.pipeline.specs.Clock.{stamped, Clocked, machine, retired, halted as stopped, flushed, executing, moved, behind_memory, clocked}
 use Rattle.pipeline.specs.declared.state.Core.{Core}
 use Rattle.pipeline.specs.declared.slots.DecodeSlot.{DecodeSlot}
 use Rattle.pipeline.specs.declared.slots.ExecuteSlot.{ExecuteSlot}
@@ -30,7 +28,7 @@ use Rattle.refinement.proofs.Stages.{issue_loads, stall_needs, no_value}
 use Rattle.refinement.proofs.Gaps.{branch_loads, gap_taken, gap_written, gap_skipped, gap_plain}
 use Rattle.refinement.proofs.Forward.{executes_right}
 use Rattle.refinement.proofs.View.{Front, idle, fetched, issuing, redirect, dead, regs, pc, halted, next, ev, slot, held_at, writes, issue_at, memory_at, gap, on, due, in_execute_of, in_decode_of, fetch_of, mslot, wslot, view, FrontRight, Flight}
-use Rattle.refinement.proofs.Quiet.{which_15, of, near, quiet_writeback, quiet_memory, regs_on, long_on}
+use Rattle.refinement.proofs.Quiet.{which_15, of, quiet_writeback, quiet_memory, regs_on, long_on}
 use Rattle.refinement.proofs.FrontStep.{execute_after, decode_after, fetch_after, Leads, branches, returns15, waits15, fetches, issues, holds15, stays_back, follows}
 
 -- the core after a clock in which no stop is passed on, part by part

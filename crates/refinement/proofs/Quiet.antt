@@ -1,28 +1,19 @@
 -- What the due clocks of a flight tell of the instructions in it. Assumes nothing.
-use Rattle.std.proofs.Common.{◌≡◌, ℕ, ◌+◌, ◌*◌, ◌<◌, ◌≤◌, Bool, true, false, cond, ◌&&◌, ◌||◌, eqb, List, length, set, is_some, Some, None, Ok, Err, Option, Result, sym, refl, ap, ◌∙◌, arith, length-set}
+use Rattle.std.proofs.Common.{◌≡◌, ℕ, ◌+◌, ◌<◌, ◌≤◌, Bool, true, false, cond, ◌&&◌, ◌||◌, List, length, is_some, Some, None, Ok, Err, Option, Result, sym, refl, ap, ◌∙◌, arith, length-set}
 use Rattle.std.specs.Result.{result_ok}
-use Rattle.std.proofs.lemmas.Bool.{or_parts}
-use Rattle.std.proofs.lemmas.Bool.Decides.{nat_tests}
 use Rattle.memory.specs.Meaning.{reading as read}
-use Rattle.isa.specs.Roles.{destination_of, is_15, is_source, first_source, second_source}
-use Rattle.isa.specs.declared.flags.Flags.{Flags}
 use Rattle.isa.specs.declared.instruction.Instruction.{Instruction}
-use Rattle.isa.specs.declared.register.Register.{Register}
-use Rattle.stepper.specs.Registers.{read_at, written}
+use Rattle.stepper.specs.Registers.{written}
 use Rattle.stepper.specs.Step.{Setting, World, turn}
 use Rattle.stepper.specs.declared.event.RegisterWrite.{RegisterWrite}
 use Rattle.stepper.specs.declared.event.Stop.{Stop}
 use Rattle.pipeline.specs.Writeback.{register_of}
-use Rattle.pipeline.specs.ExecuteStage.{memory_write, pending_write, taking, operand, taken_by, issued_on}
-use Rattle.pipeline.specs.DecodeStage.{understood, word_in, reading}
+use Rattle.pipeline.specs.ExecuteStage.{memory_write, taken_by}
 use Rattle.pipeline.specs.FetchStage.{in_decode, is_write_15}
-use Rattle.pipeline.specs.declared.slots.MemorySlot.{MemorySlot}
-use Rattle.pipeline.specs.declared.slots.WritebackSlot.{WritebackSlot}
-use Rattle.refinement.specs.ClockLaw.{instruction_of, which, is_done, is_skipped, is_branch, writes_15, taken_branch, done_write_15, skipped_write_15, brought, load_of, needs, feeds, bit}
-use Rattle.refinement.proofs.Facts.{Facts, facts, alone, hits}
+use Rattle.refinement.specs.ClockLaw.{instruction_of, which, is_done, is_skipped, is_branch, writes_15, taken_branch, done_write_15, skipped_write_15, brought, load_of, feeds, bit}
+use Rattle.refinement.proofs.Facts.{Facts, facts}
 use Rattle.refinement.proofs.Found.{found}
-use Rattle.refinement.proofs.Stages.{read_after}
-use Rattle.refinement.proofs.View.{regs, pc, halted, next, ev, slot, held_at, memory_at, gap, on, due, mslot, wslot}
+use Rattle.refinement.proofs.View.{regs, pc, halted, next, ev, held_at, memory_at, gap, on, due, mslot, wslot}
 
 -- a write keeps the number of registers
 long_after : (values : List ℕ) (w : Option RegisterWrite) → length values ≡ 15 → length (written values w) ≡ 15

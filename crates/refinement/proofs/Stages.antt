@@ -1,23 +1,18 @@
 -- What a stage does to a slot, over any content. Assumes nothing.
-use Rattle.std.proofs.Common.{◌≡◌, ℕ, ◌+◌, ◌<◌, Bool, true, false, cond, ◌||◌, eqb, List, length, get_or, set, is_some, Some, None, Ok, Err, Option, Result, sym, refl, ap, ◌∙◌, arith}
+use Rattle.std.proofs.Common.{◌≡◌, ℕ, false, cond, List, length, Some, None, Ok, Err, Option, Result, refl, ap, arith}
 use Rattle.std.specs.Result.{result_ok}
 use Rattle.std.proofs.lemmas.List.{get_or-set_same, get_or-set_other}
-use Rattle.std.proofs.lemmas.Bool.{cases_Bool}
-use Rattle.std.proofs.lemmas.Bool.Decides.{nat_tests, eqb_tells}
-use Rattle.isa.specs.Roles.{destination_of, is_15, is_source, first_source, second_source}
-use Rattle.isa.specs.declared.flags.Flags.{Flags}
+use Rattle.std.proofs.lemmas.Bool.Decides.{nat_tests}
 use Rattle.isa.specs.declared.instruction.Instruction.{Instruction}
 use Rattle.isa.specs.declared.register.Register.{Register}
 use Rattle.stepper.specs.Registers.{read_at, written}
-use Rattle.stepper.specs.Step.{behind}
 use Rattle.stepper.specs.declared.event.RegisterWrite.{RegisterWrite}
 use Rattle.stepper.specs.declared.event.Stop.{Stop}
-use Rattle.pipeline.specs.ExecuteStage.{taking, operand, forwarded, taken_by, issued_on}
+use Rattle.pipeline.specs.ExecuteStage.{taking}
 use Rattle.pipeline.specs.DecodeStage.{reading, loaded_in, stalls}
 use Rattle.pipeline.specs.FetchStage.{in_decode, issue_writes_15, is_write_15, value_for_15}
-use Rattle.pipeline.specs.declared.slots.Issue.{Issue}
 use Rattle.refinement.specs.ClockLaw.{needs}
-use Rattle.refinement.proofs.Facts.{alone, load_in}
+use Rattle.refinement.proofs.Facts.{load_in}
 
 -- a register read after a write, if the write is not of register 15
 pub read_after : (values : List ℕ) (a : ℕ) (w : Option RegisterWrite) (r : Register) → length values ≡ 15 → is_write_15 w ≡ false → read_at (written values w) a r ≡ taking w r (read_at values a r)

@@ -1,15 +1,12 @@
 -- A core in flight, seen from the stepper: which slots are full, and what they then hold. Assumes nothing.
 use Rattle.std.proofs.Common.{◌≡◌, ℕ, ◌+◌, ◌*◌, Bool, true, false, cond, ◌&&◌, List, length, Some, None, Option, Result}
-use Rattle.memory.specs.Meaning.{Words}
-use Rattle.isa.specs.declared.flags.Flags.{Flags}
 use Rattle.isa.specs.declared.instruction.Instruction.{Instruction}
-use Rattle.stepper.specs.Step.{Setting, World, Turn, turn, behind}
+use Rattle.stepper.specs.Step.{Setting, World, turn, behind}
 use Rattle.stepper.specs.declared.event.Event.{Event}
 use Rattle.stepper.specs.declared.event.Stop.{Stop}
 use Rattle.pipeline.specs.DecodeStage.{understood, word_in, reading, issued}
 use Rattle.pipeline.specs.FetchStage.{in_decode, is_write_15, slot_at}
 use Rattle.pipeline.specs.declared.state.Core.{Core}
-use Rattle.pipeline.specs.declared.state.Slots.{Slots}
 use Rattle.pipeline.specs.declared.slots.DecodeSlot.{DecodeSlot}
 use Rattle.pipeline.specs.declared.slots.ExecuteSlot.{ExecuteSlot}
 use Rattle.pipeline.specs.declared.slots.MemorySlot.{MemorySlot}

@@ -9,7 +9,6 @@ use Rattle.isa.specs.declared.register.Register.{Register}
 use Rattle.stepper.specs.declared.event.Event.{Event}
 use Rattle.stepper.specs.declared.event.Kind.{Kind}
 use Rattle.stepper.specs.declared.event.Kind.TheVariants.{Done, Skipped, Stopped}
-use Rattle.stepper.specs.declared.event.Stop.{Stop}
 use Rattle.stepper.specs.declared.event.Stop.TheVariants.{Fetch, Outside, Access}
 
 -- a word could be read: every event but a stop at fetching

@@ -1,11 +1,10 @@
 -- The core is the stepper running late: by how much follows from the stepper's events alone.
-use Rattle.std.specs.Prelude.{◌≡◌, ℕ, zero, suc, ◌+◌, ◌-◌, ◌≤◌, Bool, cond, List, [], ◌∷◌, ◌++◌, map, length, is_some, None, Option, slice_index_or}
+use Rattle.std.specs.Prelude.{◌≡◌, ℕ, zero, suc, ◌+◌, ◌-◌, ◌≤◌, cond, List, [], ◌++◌, map, length, is_some, None, Option, slice_index_or}
 use Rattle.std.specs.Option.{option_to_list}
 use Rattle.memory.specs.Meaning.{Words}
 use Rattle.stepper.specs.Alike.{SameMeanings}
 use Rattle.stepper.specs.Step.{Setting}
 use Rattle.stepper.specs.Run.{after_steps, first_events}
-use Rattle.stepper.specs.declared.event.Event.{Event}
 use Rattle.pipeline.specs.Clock.{Machine, machine, reset, clocked}
 use Rattle.pipeline.specs.declared.clock.Handed.{Handed}
 use Rattle.refinement.specs.ClockLaw.{bit, clock_of}

@@ -1,5 +1,5 @@
 -- A list of calls that is performed for a client: the requests, the answers, and that they are what the calls promise.
-use Rattle.std.specs.Prelude.{◌≡◌, ℕ, List, ◌++◌, map, length}
+use Rattle.std.specs.Prelude.{◌≡◌, List, ◌++◌, map, length}
 use Rattle.std.specs.List.{flat_map}
 use Rattle.stepper.specs.Step.{Setting}
 use Rattle.pipeline.specs.Clock.{Machine}

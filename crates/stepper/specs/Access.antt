@@ -1,5 +1,5 @@
 -- What the data memory's part of an instruction answers, and the words afterwards.
-use Rattle.std.specs.Prelude.{ℕ, Bool, cond, is_ok, Some, None, Ok, Err, Option, Result}
+use Rattle.std.specs.Prelude.{ℕ, Bool, cond, is_ok, Some, None, Ok, Err, Result}
 use Rattle.memory.specs.Meaning.{Words, Tags, reading, writing, put}
 use Rattle.memory.specs.declared.fault.Fault.{Fault}
 use Rattle.isa.specs.declared.register.Register.{Register}

@@ -1,5 +1,5 @@
 -- One step of a routine: fetch, decode, judge the condition, do it.
-use Rattle.std.specs.Prelude.{◌≡◌, ℕ, ◌+◌, ◌%◌, ◌^◌, Bool, true, false, cond, List, replicate, Some, None, Ok, Err, Option, Result, ◌==◌}
+use Rattle.std.specs.Prelude.{◌≡◌, ℕ, ◌+◌, ◌%◌, ◌^◌, Bool, true, false, cond, replicate, Some, None, Ok, Err, Option, Result, ◌==◌}
 use Rattle.memory.specs.Meaning.{Words, Tags, reading}
 use Rattle.memory.specs.declared.fault.Fault.{Fault}
 use Rattle.isa.specs.Conditions.{condition_holds}
@@ -12,7 +12,6 @@ use Rattle.stepper.specs.Execute.{work_of, flags_of}
 use Rattle.stepper.specs.Registers.{read_at, written}
 use Rattle.stepper.specs.declared.access.Effect.{Effect}
 use Rattle.stepper.specs.declared.event.Event.{Event}
-use Rattle.stepper.specs.declared.event.Kind.{Kind}
 use Rattle.stepper.specs.declared.event.Kind.TheVariants.{Done, Skipped, Stopped}
 use Rattle.stepper.specs.declared.event.RegisterWrite.{RegisterWrite}
 use Rattle.stepper.specs.declared.event.Stop.{Stop}

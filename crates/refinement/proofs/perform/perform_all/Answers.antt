@@ -1,11 +1,11 @@
 use Rattle.std.proofs.Common.{◌≡◌, [], take, is_ok, vec_items, sym, refl, ap, ◌∙◌, subst, arith}
 use Rattle.std.proofs.ResultArms.{chosen}
-use Rattle.std.proofs.lemmas.List.{take_all, take_more}
+use Rattle.std.proofs.lemmas.List.{take_all}
 use Rattle.std.proofs.lemmas.Result.{err_from_is_err_and}
 use Rattle.stepper.specs.Step.{setting}
 use Rattle.pipeline.specs.Clock.{machine, reset}
 use Rattle.refinement.specs.Performing.{AllPerformed, GivenUp}
-use Rattle.refinement.proofs.Performs.{none_yet, one_performed, given_up_then, given_up_here, one_turn, all_late, at_the_start}
+use Rattle.refinement.proofs.Performs.{none_yet, given_up_then, given_up_here, one_turn, all_late, at_the_start}
 use Rattle.refinement.proofs.perform.perform_all.Goals as goal
 
 pub loop-call-init : goal.loop-call-init

@@ -1,4 +1,4 @@
-use Rattle.std.proofs.Common.{◌≡◌, ◌++◌, is_ok, Ok, vec_items, sym, refl, ap, ◌∙◌}
+use Rattle.std.proofs.Common.{◌++◌, is_ok, Ok, vec_items, sym, refl, ap, ◌∙◌}
 use Rattle.std.proofs.ResultArms.{chosen}
 use Rattle.std.proofs.lemmas.Result.{err_from_is_err_and}
 use Rattle.std.specs.Option.{option_to_list}

@@ -1,4 +1,4 @@
-use Rattle.std.proofs.Common.{[], refl}
+use Rattle.std.proofs.Common.{refl}
 use Rattle.std.proofs.lemmas.Result.{err_from_is_err_and}
 use Rattle.refinement.proofs.Performs.{not_begun}
 use Rattle.refinement.proofs.perform.perform_run.Goals as goal

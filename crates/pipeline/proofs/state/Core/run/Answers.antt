@@ -1,4 +1,4 @@
-use Rattle.std.proofs.Common.{◌≡◌, ◌+◌, length, Some, None, sym, refl, ap, ◌∙◌, arith, rules}
+use Rattle.std.proofs.Common.{◌≡◌, ◌+◌, length, sym, refl, ap, ◌∙◌, arith, rules}
 use Rattle.stepper.specs.Step.{setting}
 use Rattle.pipeline.specs.Clock.{machine, clocked}
 use Rattle.pipeline.specs.Calls.{end_of, stop_in}
