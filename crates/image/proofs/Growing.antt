@@ -4,7 +4,7 @@ use Rattle.std.proofs.lemmas.List.FromFn.{map-range_with_len_more}
 use Rattle.std.proofs.ByRecursion.{All-push}
 use Rattle.std.proofs.lemmas.List.{flat_map_more, length_push, take-take}
 use Rattle.std.proofs.lemmas.Bool.{cases_lt}
-use Rattle.std.specs.List.{range_with_len, between, flat_map, AllByRecursion as All}
+use Rattle.std.specs.List.{range_with_len, between, flat_map, AllByRecursion}
 use Rattle.image.specs.declared.block.Block.{Block}
 use Rattle.image.specs.Formats.{Format}
 use Rattle.image.specs.Images.{words_in}
@@ -15,7 +15,7 @@ use Rattle.image.proofs.Packed.{packed_push}
 -- the blocks read so far: each is full while more are to come
 pub record Grown (bytes : List ℕ) (k : ℕ) (blocks : List Block) : Type 0 where
   pub many : length blocks ≡ k
-  pub whole : k < block_count bytes → All (λ (b : Block). b.count ≡ 126) blocks
+  pub whole : k < block_count bytes → AllByRecursion (λ (b : Block). b.count ≡ 126) blocks
   pub tight : packed blocks ≡ true
   pub words : flat_map words_in blocks ≡ flat_map carried (map (block_words bytes) (range_with_len 0 k))
 

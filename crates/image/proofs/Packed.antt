@@ -3,7 +3,7 @@ use Rattle.std.proofs.Common.{◌≡◌, ℕ, zero, suc, ◌+◌, ◌-◌, ◌*�
 use Rattle.std.proofs.lemmas.List.{get_or_append_left, get_or-append_right, length-take-le}
 use Rattle.std.proofs.lemmas.Bool.{and_parts, and_from, cases_lt, cond_below, cond_above, eq-eqb, eqb-true, le-leb, leb-true}
 use Rattle.std.specs.Slice.{IsGetResult}
-use Rattle.std.specs.List.{flat_map, AllByRecursion as All}
+use Rattle.std.specs.List.{flat_map, AllByRecursion}
 use Rattle.image.specs.declared.block.Block.{Block}
 use Rattle.image.specs.Images.{words_in}
 use Rattle.image.specs.Layout.{word_of}
@@ -132,7 +132,7 @@ pub filled_packed : (blocks : List Block) → well_filled blocks ≡ true → pa
 filled_packed blocks filled = (and_parts (leb (length blocks) 64) (packed blocks) filled).1
 
 -- full blocks stay packed with one more behind them
-pub packed_push : (blocks : List Block) (block : Block) → All (λ b. b.count ≡ 126) blocks → 1 ≤ block.count → block.count ≤ 126 → packed (blocks ++ block ∷ []) ≡ true
+pub packed_push : (blocks : List Block) (block : Block) → AllByRecursion (λ b. b.count ≡ 126) blocks → 1 ≤ block.count → block.count ≤ 126 → packed (blocks ++ block ∷ []) ≡ true
 packed_push [] block all some most = and_from _ _ (le-leb 1 block.count some) (le-leb block.count 126 most)
 packed_push (x ∷ []) block all some most = and_from _ _ (eq-eqb x.count 126 all.0) (packed_push [] block tt some most)
 packed_push (x ∷ y ∷ ys) block all some most = and_from _ _ (eq-eqb x.count 126 all.0) (packed_push (y ∷ ys) block all.1 some most)

@@ -1,6 +1,6 @@
 -- The format of an image, and what a refusal says of bytes that are not in it.
 use Rattle.std.specs.Prelude.{◌≡◌, ℕ, ◌+◌, ◌*◌, ◌%◌, ◌^◌, ◌<◌, ◌≤◌, List, length, sum}
-use Rattle.std.specs.List.{AllByRecursion as All}
+use Rattle.std.specs.List.{AllByRecursion}
 use Rattle.image.specs.declared.refusal.Refusal.{Refusal}
 use Rattle.image.specs.declared.refusal.Refusal.TheVariants.{Length, Check, Place, Count, Filler}
 use Rattle.image.specs.Layout.{block_count, block_words, place_of, count_of, filler}
@@ -26,7 +26,7 @@ CountRight n i words =
 
 -- a block is filled up with zeros
 abbrev pub FillerRight : List ℕ → Type 0
-FillerRight words = All (λ word. word ≡ 0) (filler words)
+FillerRight words = AllByRecursion (λ word. word ≡ 0) (filler words)
 
 -- the block at place i is as it should be
 pub record Sound (bytes : List ℕ) (i : ℕ) : Type 0 where

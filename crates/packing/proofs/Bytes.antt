@@ -3,7 +3,7 @@ use Rattle.std.proofs.Common.{◌≡◌, ℕ, zero, suc, ◌+◌, ◌-◌, ◌*�
 use native.Mathlib.Nat.{div-div-eq-div-mul}
 use Rattle.std.proofs.lemmas.List.FromFn.{fill_by_all, get_or-map-range_with_len, length-map-range_with_len}
 use Rattle.std.proofs.lemmas.List.{get_or_append_left, get_or-append_right}
-use Rattle.std.specs.List.{range_with_len, flat_map, AllByRecursion as All}
+use Rattle.std.specs.List.{range_with_len, flat_map, AllByRecursion}
 use Rattle.image.specs.Layout.{word_at, block_words}
 use Rattle.packing.specs.Blocks.{little_endian}
 
@@ -48,7 +48,7 @@ word_again w small =
     omega arith
 
 -- each word is read back
-word_back : (words : List ℕ) (i : ℕ) → All Small words → i < length words → word_at (flat_map little_endian words) i ≡ get_or words i 0
+word_back : (words : List ℕ) (i : ℕ) → AllByRecursion Small words → i < length words → word_at (flat_map little_endian words) i ≡ get_or words i 0
 word_back [] i small inside = absurd (omega arith)
 word_back (word ∷ words) zero small inside = word_again word small.0
 word_back (word ∷ words) (suc i) small inside =
@@ -66,7 +66,7 @@ unfolding block_words
 block_before xs ys i inside = same_counted _ _ 128 (λ k below. word_before xs ys (128 * i + k) (omega arith))
 
 -- the block that was put behind others
-pub block_behind : (xs words : List ℕ) (k : ℕ) → length xs ≡ 512 * k → length words ≡ 128 → All Small words → block_words (xs ++ flat_map little_endian words) k ≡ words
+pub block_behind : (xs words : List ℕ) (k : ℕ) → length xs ≡ 512 * k → length words ≡ 128 → AllByRecursion Small words → block_words (xs ++ flat_map little_endian words) k ≡ words
 unfolding block_words
 block_behind xs words k long size small =
     sym

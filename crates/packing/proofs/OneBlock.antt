@@ -3,7 +3,7 @@ use Rattle.std.proofs.Common.{◌≡◌, ℕ, zero, suc, ◌+◌, ◌-◌, ◌<�
 use Rattle.std.proofs.ByRecursion.{All-append}
 use Rattle.std.proofs.lemmas.List.{drop_at, drop-replicate, length-append, length-replicate, take_all, take_at}
 use Rattle.std.proofs.lemmas.List.Sums.{sum_by-append, sum_by-cons}
-use Rattle.std.specs.List.{flat_map, AllByRecursion as All}
+use Rattle.std.specs.List.{flat_map, AllByRecursion}
 use Rattle.image.specs.Formats.{FillerRight, PlaceRight, SumRight}
 use Rattle.image.specs.Layout.{carried, count_of, filler}
 use Rattle.packing.specs.Blocks.{block_of, check_word, filler_for, head_of, little_endian}
@@ -13,7 +13,7 @@ sum_zeros : (n : ℕ) → sum (replicate n 0) ≡ 0
 sum_zeros zero = refl
 sum_zeros (suc n) = sum_by-cons (λ x. x) 0 (replicate n 0) ∙ ap (λ s. 0 + s) (sum_zeros n)
 
-all_zeros : (P : ℕ → Type 0) (n : ℕ) → P 0 → All P (replicate n 0)
+all_zeros : (P : ℕ → Type 0) (n : ℕ) → P 0 → AllByRecursion P (replicate n 0)
 all_zeros P zero h = tt
 all_zeros P (suc n) h = (h, all_zeros P n h)
 
@@ -64,10 +64,10 @@ module _ (place : ℕ) (words : List ℕ) (low : place < 65536) (few : length wo
       ap (λ n. take (127 - (count_of (block_of place words) + 1)) (drop n (block_of place words))) from
       ∙ ap (λ (xs : List ℕ). take (127 - (count_of (block_of place words) + 1)) xs) rest
       ∙ take_at (filler_for words) _ _ (sym size) in
-      let P : List ℕ → Type 0 = All (λ word. word ≡ 0) in
+      let P : List ℕ → Type 0 = AllByRecursion (λ word. word ≡ 0) in
       subst P (sym is) (all_zeros (λ word. word ≡ 0) (126 - length words) refl)
 
-  pub block_small : All Small words → All Small (block_of place words)
+  pub block_small : AllByRecursion Small words → AllByRecursion Small (block_of place words)
   unfolding block_of
   block_small small = (
     omega arith,

@@ -3,7 +3,7 @@ use Rattle.std.proofs.Common.{◌≡◌, ℕ, ◌+◌, ◌*◌, ◌/◌, ◌%◌
 use native.Mathlib.Nat.{div-div-eq-div-mul}
 use Rattle.std.proofs.lemmas.Bool.{lt-ltb}
 use Rattle.std.proofs.lemmas.Bool.Decides.{nat_tests}
-use Rattle.std.specs.List.{flat_map, AllByRecursion as All}
+use Rattle.std.specs.List.{flat_map, AllByRecursion}
 use Rattle.packing.specs.declared.line.Kind.TheVariants.{Digit}
 use Rattle.packing.specs.declared.line.Place.{Place}
 use Rattle.packing.specs.declared.line.Place.TheVariants.{Before, Within}
@@ -33,14 +33,14 @@ digit_first words ended d rest small = rw (digit_no_end d small, digit_kind d sm
 abbrev value_on : ℕ → List ℕ → ℕ
 value_on value digits = fold (λ v d. v * 16 + d) value digits
 
-digits_on : (words : List ℕ) (ended value count : ℕ) (digits rest : List ℕ) → count + length digits ≤ 8 → All (λ d. d < 16) digits → read_on words (at ended (Within value count)) (map digit_code digits ++ 10 ∷ rest) ≡ read_on (words ++ value_on value digits ∷ []) (at (ended + 1) Before) rest
+digits_on : (words : List ℕ) (ended value count : ℕ) (digits rest : List ℕ) → count + length digits ≤ 8 → AllByRecursion (λ d. d < 16) digits → read_on words (at ended (Within value count)) (map digit_code digits ++ 10 ∷ rest) ≡ read_on (words ++ value_on value digits ∷ []) (at (ended + 1) Before) rest
 digits_on words ended value count [] rest few small = refl
 digits_on words ended value count (d ∷ digits) rest few small =
     digit_on words ended value count d (map digit_code digits ++ 10 ∷ rest) (omega arith) small.0
     ∙ digits_on words ended (value * 16 + d) (count + 1) digits rest (omega arith) small.1
 
 -- a line of digits
-digits_line : (words : List ℕ) (ended : ℕ) (digits rest : List ℕ) → 0 < length digits → length digits ≤ 8 → All (λ d. d < 16) digits → read_on words (at ended Before) (map digit_code digits ++ 10 ∷ rest) ≡ read_on (words ++ value_on 0 digits ∷ []) (at (ended + 1) Before) rest
+digits_line : (words : List ℕ) (ended : ℕ) (digits rest : List ℕ) → 0 < length digits → length digits ≤ 8 → AllByRecursion (λ d. d < 16) digits → read_on words (at ended Before) (map digit_code digits ++ 10 ∷ rest) ≡ read_on (words ++ value_on 0 digits ∷ []) (at (ended + 1) Before) rest
 digits_line words ended [] rest some few small = absurd (omega arith)
 digits_line words ended (d ∷ digits) rest some few small =
     let start : 0 * 16 + d ≡ d = omega arith in
@@ -53,11 +53,11 @@ digits_many : (word : ℕ) → length (digits_of word) ≡ 8
 unfolding digits_of
 digits_many word = refl
 
-below_16 : (f : ℕ → ℕ) (places : List ℕ) → All (λ d. d < 16) (map (λ place. f place % 16) places)
+below_16 : (f : ℕ → ℕ) (places : List ℕ) → AllByRecursion (λ d. d < 16) (map (λ place. f place % 16) places)
 below_16 f [] = tt
 below_16 f (place ∷ places) = (omega arith, below_16 f places)
 
-digits_small : (word : ℕ) → All (λ d. d < 16) (digits_of word)
+digits_small : (word : ℕ) → AllByRecursion (λ d. d < 16) (digits_of word)
 unfolding digits_of
 digits_small word = below_16 (λ place. word / 16 ^ place) (7 ∷ 6 ∷ 5 ∷ 4 ∷ 3 ∷ 2 ∷ 1 ∷ 0 ∷ [])
 
@@ -87,7 +87,7 @@ line_back words ended word rest small =
     ∙ digits_line words ended (digits_of word) rest (omega arith) (omega arith) (digits_small word)
     ∙ ap (λ v. read_on (words ++ v ∷ []) (at (ended + 1) Before) rest) (digits_value word small)
 
-lines_back : (before : List ℕ) (ended : ℕ) (words : List ℕ) → All (λ word. word < 2 ^ 32) words → read_on before (at ended Before) (flat_map line_of words) ≡ Ok (before ++ words)
+lines_back : (before : List ℕ) (ended : ℕ) (words : List ℕ) → AllByRecursion (λ word. word < 2 ^ 32) words → read_on before (at ended Before) (flat_map line_of words) ≡ Ok (before ++ words)
 lines_back before ended [] small = refl
 lines_back before ended (word ∷ words) small =
     line_back before ended word (flat_map line_of words) small.0

@@ -1,6 +1,6 @@
 -- What reading a text comes to: words that are written out are read back, and examples.
 use Rattle.std.specs.Prelude.{◌≡◌, ℕ, ◌+◌, ◌/◌, ◌%◌, ◌^◌, ◌<◌, cond, List, [], ◌∷◌, ◌++◌, map, Ok, Err, codes, nat_lt}
-use Rattle.std.specs.List.{flat_map, AllByRecursion as All}
+use Rattle.std.specs.List.{flat_map, AllByRecursion}
 use Rattle.packing.specs.declared.error.Reason.TheVariants.{NotHex, TooLong, TwoWords}
 use Rattle.packing.specs.Texts.{words_of}
 
@@ -17,7 +17,7 @@ line_of word = map digit_code (digits_of word) ++ 10 ∷ []
 
 -- words that are written out, one to a line, are read back
 abbrev pub ReadBack : Type 0
-ReadBack = (words : List ℕ) → All (λ word. word < 2 ^ 32) words → words_of (flat_map line_of words) ≡ Ok words
+ReadBack = (words : List ℕ) → AllByRecursion (λ word. word < 2 ^ 32) words → words_of (flat_map line_of words) ≡ Ok words
 
 pub record Examples : Type 0 where
   pub mixed : words_of (codes "# two words\n\n  e28c1015\t# the first\r\nFF#ff\n") ≡ Ok (0xE28C1015 ∷ 255 ∷ [])
