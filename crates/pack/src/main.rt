@@ -7,6 +7,7 @@ use packing::TextError;
 use packing::pack::pack;
 use packing::text::words_of;
 use std::io::{Read, Write};
+use std::process::ExitCode;
 
 // The most bytes of text that are read.
 const MOST_BYTES: usize = 1_048_576;
@@ -42,10 +43,11 @@ fn write_image(rt: &HostRuntime) -> anyhow::Result<()> {
     }
 }
 
-fn main(rt: HostRuntime) -> anyhow::Result<()> {
-    let result = write_image(&rt);
-    if let Err(error) = &result {
+// The error is one line on standard error; a returned `Err` would be printed once more.
+fn main(rt: HostRuntime) -> anyhow::Result<ExitCode> {
+    if let Err(error) = write_image(&rt) {
         eprintln!(rt; "{error}")?;
+        return Ok(ExitCode::FAILURE);
     }
-    result
+    Ok(ExitCode::SUCCESS)
 }

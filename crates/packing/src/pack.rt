@@ -14,8 +14,8 @@ pub const MOST_WORDS: usize = 8_064;
 
 // How many blocks so many words fill, the last perhaps in part.
 fn blocks_for(count: usize) -> u16
-    requires le_count { 1 ≤ count }
-    requires count_bound { count ≤ 8064 }
+    requires some { 1 ≤ count }
+    requires fits { count ≤ 8064 }
     ensures most { result ≤ 64 }
     ensures room { count ≤ 126 * result }
     ensures needed { 126 * (result - 1) < count }
