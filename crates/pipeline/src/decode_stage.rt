@@ -1,6 +1,6 @@
 // Decode: says what a fetched word is, reads the source registers, and waits for a load that one of them depends on.
 ghost use Rattle.std.specs.Prelude.{◌≡◌};
-ghost use Rattle.pipeline.specs.DecodeStage.{understood, word_in, reading, held_in, awaited, sourced, stalls, passing, to_execute};
+ghost use Rattle.pipeline.specs.DecodeStage.{understood, reading, held_in, awaited, sourced, stalls, passing, to_execute};
 
 use crate::slots::{Change, DecodeSlot, ExecuteSlot, Issue};
 use isa::decode::decode;
@@ -16,12 +16,6 @@ fn understand(fetched: Result<u32, Fault>) -> Result<Instruction, Stop>
 {
     let word = fetched.map_err(Stop::Fetch)?;
     decode(word).ok_or(Stop::Outside)
-}
-
-fn word_in(fetched: Result<u32, Fault>) -> u32
-    ensures { result ≡ word_in fetched }
-{
-    fetched.unwrap_or(0)
 }
 
 // The two source registers are read.
@@ -81,7 +75,7 @@ pub fn pass(
     match (slot, held) {
         (Some(content), Some(instruction)) => Change::Fill(ExecuteSlot {
             address: content.address,
-            word: word_in(content.fetched),
+            word: content.fetched.unwrap_or(0),
             issue: read_sources(registers, content.address, instruction),
         }),
         _ => Change::Empty,

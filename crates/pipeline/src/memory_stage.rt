@@ -28,10 +28,8 @@ pub fn memory_stage<M: Memory>(slot: Option<MemorySlot>, memory: &mut M) -> Opti
     ensures rest { OnlyWordsChange M.Store M.Memory.own memory.old memory.new }
 {
     let content = slot?;
-    let (kind, effect) = complete(content.pending, memory).unwrap_or_else(|stop| (
-        Kind::Stopped(stop),
-        Effect::default(),
-    ));
+    let stopped = |stop| (Kind::Stopped(stop), Effect::default());
+    let (kind, effect) = complete(content.pending, memory).unwrap_or_else(stopped);
     let event = Event {
         address: content.address,
         word: content.word,

@@ -151,9 +151,7 @@ impl Stepper {
         ensures turn { Attempted (world self.old (M.Store.word_at memory.old)) word (understanding (M.Store.tag_at memory.old) (M.Memory.writable_at memory.old) (world self.old (M.Store.word_at memory.old)) word (decoded word)) (world self.new (M.Store.word_at memory.new)) result }
         ensures rest { OnlyWordsChange M.Store M.Memory.own memory.old memory.new }
     {
-        let Some(instruction) = decode(word) else {
-            return Err(Stop::Outside);
-        };
+        let instruction = decode(word).ok_or(Stop::Outside)?;
         if !instruction.condition.holds(self.flags) {
             return Ok(self.skip(word));
         }
