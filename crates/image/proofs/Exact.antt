@@ -172,16 +172,12 @@ reached_refusal bytes i r reached some =
     sym
     (block_decides
     bytes
-    (block_words bytes i)
     i
-    (block_refusal (block_count bytes) i (block_words bytes i))
     r
     (size_fits_lem bytes reached.size)
     inside
     (sound_first bytes i (omega arith) reached.before)
-    refl
-    refl
-    some)
+    (sym some))
 
 -- a test of what does not hold fails
 fails : {P : Type 0} (test : Bool) → Decides test P → (P → ⊥) → test ≡ false

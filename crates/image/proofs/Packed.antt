@@ -2,7 +2,7 @@
 use Rattle.std.proofs.Common.{◌≡◌, ℕ, zero, suc, ◌+◌, ◌-◌, ◌*◌, ◌/◌, ◌%◌, ◌<◌, ◌≤◌, true, eqb, leb, List, [], ◌∷◌, ◌++◌, length, get_or, Some, None, Option, sym, refl, ap, ◌∙◌, subst, ⊎_elim, arith, length-append, Bor, MatchOption}
 use Rattle.std.proofs.lemmas.List.{get_or_append_left, get_or-append_right, length-take-le}
 use Rattle.std.proofs.lemmas.Bool.{and_parts, and_from, cases_lt, cond_below, cond_above, eq-eqb, eqb-true, le-leb, leb-true}
-use Rattle.std.specs.Slice.{IsGetResult}
+use Rattle.std.specs.Slice.{IsGetResult, IsItemAt}
 use Rattle.std.specs.List.{flat_map, AllByRecursion}
 use Rattle.image.specs.declared.block.Block.{Block}
 use Rattle.image.specs.Images.{words_in}
@@ -127,6 +127,13 @@ word_at blocks index block tight inside is =
     ∙ cond_above (index % 126) (length (words_in there)) _ None None past refl)
     (cases_lt (index % 126) (length (words_in there))))
 
+-- what is looked up among the blocks has the word of that index, if any block has; `xs` is the slice that is read from
+pub block_found : (xs blocks : List Block) (index : ℕ) (r : Option (Bor Block)) → xs ≡ blocks → packed blocks ≡ true → IsItemAt xs (index / 126) r → MatchOption r (word_of (flat_map words_in blocks) index ≡ None) (λ block. word_of (flat_map words_in blocks) index ≡ word_of (words_in block.now) (index % 126))
+block_found xs blocks index None same tight item =
+    word_beyond blocks index tight (omega (arith, ap length same, item.3))
+block_found xs blocks index (Some block) same tight item =
+    word_at blocks index block.now tight (omega (arith, ap length same, item.3.0)) (item.1 ∙ ap (λ (bs : List Block). get_or bs (index / 126) block.now) same)
+
 -- the blocks of an image are packed
 pub filled_packed : (blocks : List Block) → well_filled blocks ≡ true → packed blocks ≡ true
 filled_packed blocks filled = (and_parts (leb (length blocks) 64) (packed blocks) filled).1
@@ -136,3 +143,7 @@ pub packed_push : (blocks : List Block) (block : Block) → AllByRecursion (λ b
 packed_push [] block all some most = and_from _ _ (le-leb 1 block.count some) (le-leb block.count 126 most)
 packed_push (x ∷ []) block all some most = and_from _ _ (eq-eqb x.count 126 all.0) (packed_push [] block tt some most)
 packed_push (x ∷ y ∷ ys) block all some most = and_from _ _ (eq-eqb x.count 126 all.0) (packed_push (y ∷ ys) block all.1 some most)
+
+-- and there are at most 64
+pub filled_few : (blocks : List Block) → well_filled blocks ≡ true → length blocks ≤ 64
+filled_few blocks filled = leb-true (length blocks) 64 (and_parts (leb (length blocks) 64) (packed blocks) filled).0

@@ -1,11 +1,11 @@
 -- That an image maps only multiples of four below 2^32, as the reading trait asks.
-use Rattle.std.specs.Prelude.{◌≡◌, ℕ, ◌*◌, ◌/◌, ◌≤◌, true, List, [], ◌∷◌, length, is_some, vec_items, ◌==◌, nat_le, nat_lt}
+use Rattle.std.specs.Prelude.{◌≡◌, ℕ, ◌*◌, ◌≤◌, true, List, [], ◌∷◌, length, is_some, vec_items, ◌==◌, nat_le}
 use Rattle.std.proofs.Common.{arith}
 use Rattle.std.specs.List.{flat_map}
 use Rattle.std.proofs.lemmas.List.{length-append, length-take}
-use Rattle.std.proofs.lemmas.Bool.{and_parts, ltb-true, leb-true, eqb-true}
-use Rattle.memory.specs.Meaning.{WordAddress, aligned}
-use Rattle.memory.specs.OnlyWords.{under_test}
+use Rattle.std.proofs.lemmas.Bool.{and_parts, leb-true, eqb-true}
+use Rattle.std.proofs.lemmas.Bool.Decides.{nat_tests}
+use Rattle.memory.specs.Meaning.{WordAddress}
 use Rattle.image.specs.declared.block.Block.{Block}
 use Rattle.image.specs.declared.image.Image.{Image}
 use Rattle.image.specs.Images.{image_words, words_in}
@@ -27,10 +27,6 @@ few (b ∷ next ∷ more) h =
 
 pub served_is_a_word : (image : Image) (a : ℕ) → is_some (served (image_words image) a) ≡ true → WordAddress a
 served_is_a_word image a h =
-    let multiple = under_test (aligned a) _ h in
-    let within = under_test (nat_lt (a / 4) (length (image_words image))) _ multiple.1 in
     let filled = and_parts (nat_le (length (vec_items image.blocks)) 64) _ image.full in
-    record {
-      multiple = eqb-true _ _ multiple.0;
-      below = omega (arith, ltb-true _ _ within.0, few (vec_items image.blocks) filled.1, leb-true _ _ filled.0);
-    }
+    let most = few (vec_items image.blocks) filled.1 in
+    record { multiple = grind (arith, nat_tests); below = grind (arith, nat_tests) }

@@ -30,10 +30,6 @@ impl Block {
     pub(crate) fn word(&self, offset: usize) -> Option<u32>
         ensures { result ≡ word_of (take self.now.count self.now.words) offset }
     {
-        if offset < self.count as usize {
-            Some(self.words[offset])
-        } else {
-            None
-        }
+        self.words[..usize::from(self.count)].get(offset).copied()
     }
 }
