@@ -1,23 +1,15 @@
 -- One step of each loop over words or blocks, over plain variables.
-use Rattle.std.proofs.Common.{◌≡◌, ℕ, zero, suc, ◌+◌, ◌-◌, ◌%◌, ◌^◌, ◌<◌, ◌≤◌, true, List, [], ◌∷◌, fold, length, get_or, take, Some, None, sum, sym, ap, ◌∙◌, add-zero, add-suc, add-one, arith}
-use Rattle.std.proofs.lemmas.List.{get_or-take, length-take-le}
+use Rattle.std.proofs.Common.{◌≡◌, ℕ, zero, suc, ◌+◌, ◌-◌, ◌%◌, ◌^◌, ◌<◌, ◌≤◌, true, List, [], ◌∷◌, fold, length, Some, None, sum, sym, ap, ◌∙◌, add-zero, add-suc, add-one, arith}
 use Rattle.std.proofs.lemmas.List.Sums.{sum_by-cons}
-use Rattle.std.proofs.lemmas.Bool.{cond_below}
 use Rattle.std.specs.Option.{option_or}
 use Rattle.image.specs.declared.refusal.Refusal.{Refusal}
-use Rattle.image.specs.Layout.{block_count, block_words, word_of}
+use Rattle.image.specs.Layout.{block_count, block_words}
 use Rattle.image.specs.FirstRefusal.{block_refusal, first_refusal, refusal_of, size_fits}
 
 -- a fold that wraps gives the sum modulo 2^32
 pub fold_wraps : (words : List ℕ) (total : ℕ) → total < 2 ^ 32 → fold (λ t w. (t + w) % 2 ^ 32) total words ≡ (total + sum words) % 2 ^ 32
 fold_wraps [] total small = omega arith
 fold_wraps (word ∷ words) total small = omega (arith, fold_wraps words ((total + word) % 2 ^ 32) (omega arith), sum_by-cons (λ x. x) word words)
-
--- a word that is counted is among those that are taken
-pub word_counted : (words : List ℕ) (count offset : ℕ) → count ≤ length words → offset < count → Some (get_or words offset 0) ≡ word_of (take count words) offset
-word_counted words count offset room counted =
-    let within : offset < length (take count words) = omega (arith, length-take-le count words room) in
-    ap (λ (w : ℕ). Some w) (sym (get_or-take count words offset 0 counted)) ∙ cond_below offset (length (take count words)) _ None within
 
 -- a refusal of the first k blocks is that of any more
 pub first_keeps : (bytes : List ℕ) (k d : ℕ) (r : Refusal) → first_refusal bytes k ≡ Some r → first_refusal bytes (k + d) ≡ Some r

@@ -27,14 +27,8 @@ fn count_fits(count: u16, place: u16, blocks: u16) -> bool
     if place + 1 < blocks {
         count == PAYLOAD_WORDS
     } else {
-        1 <= count && count <= PAYLOAD_WORDS
+        (1..=PAYLOAD_WORDS).contains(&count)
     }
-}
-
-fn all_zero(words: &[u32]) -> bool
-    ensures { result ≡ all_zero words.now }
-{
-    words.iter().all(|word| *word == 0)
 }
 
 fn filler_is_zero(words: &[u32; BLOCK_WORDS]) -> bool
@@ -42,7 +36,7 @@ fn filler_is_zero(words: &[u32; BLOCK_WORDS]) -> bool
     ensures { result ≡ all_zero (filler words.now) }
 {
     let count = usize::from(count_of(words));
-    all_zero(&words[count + 1..CHECK_WORD])
+    words[count + 1..CHECK_WORD].iter().all(|word| *word == 0)
 }
 
 fn check_block(words: &[u32; BLOCK_WORDS], place: u16, blocks: u16) -> Result<(), Refusal>

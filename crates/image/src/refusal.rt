@@ -20,6 +20,7 @@ impl Refusal {
     pub fn number(&self) -> u8
         ensures { result ≡ refusal_number self.now }
     {
+        // Variants that carry a place have no discriminants.
         match self {
             Refusal::Length => 1,
             Refusal::Check(_) => 2,
