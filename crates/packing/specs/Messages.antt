@@ -22,5 +22,5 @@ text_message NoMemory = codes "no memory"
 
 abbrev pub pack_message : PackError → List ℕ
 pack_message NoWords = codes "no words"
-pack_message TooManyWords = codes "more than 8064 words"
+pack_message TooManyWords = codes "more than " ++ (decimal 8064 ++ codes " words")
 pack_message OutOfMemory = codes "no memory"

@@ -3,6 +3,7 @@ ghost use Rattle.std.specs.Prelude.{Some};
 ghost use Rattle.packing.specs.Messages.{fault_message, pack_message, reason_message, text_message};
 
 use crate::error::{PackError, Reason, TextError, TextFault};
+use crate::pack::MOST_WORDS;
 use std::error::Error;
 use std::fmt;
 
@@ -44,7 +45,7 @@ impl fmt::Display for PackError {
     fn fmt<W: fmt::Write>(&self, f: &mut fmt::Formatter<W>) -> fmt::Result {
         match self {
             PackError::NoWords => write!(f, "no words"),
-            PackError::TooManyWords => write!(f, "more than 8064 words"),
+            PackError::TooManyWords => write!(f, "more than {MOST_WORDS} words"),
             PackError::OutOfMemory => write!(f, "no memory"),
         }
     }
