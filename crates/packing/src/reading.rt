@@ -1,5 +1,5 @@
 // How far a text has been read, byte by byte.
-ghost use Rattle.std.specs.Prelude.{◌≡◌, ◌+◌, ◌^◌, ◌<◌, ◌≤◌, IfOk};
+ghost use Rattle.std.specs.Prelude.{◌≡◌, ◌+◌, ◌^◌, ◌<◌, ◌≤◌, IfOk, IfErr};
 ghost use Rattle.std.specs.Option.{option_to_list};
 ghost use Rattle.packing.specs.Lines.{line_word};
 ghost use Rattle.packing.specs.Texts.{advanced, ended_word};
@@ -15,29 +15,31 @@ pub struct Reading {
 }
 
 impl Reading {
-    /// Takes in one byte, or says which line it is wrong in.
-    pub fn advance(&self, byte: u8) -> Result<Reading, TextFault>
-        requires { self.now.ended + 1 < 2 ^ 64 }
-        ensures next { result ≡ advanced self.now byte }
-        ensures lines { IfOk result (λ next. next.ended ≤ self.now.ended + 1) }
+    /// Takes in one byte. Answers the word of the line that it ends, if it ends one that has a word, or says which line
+    /// it is wrong in.
+    pub fn advance(&mut self, byte: u8) -> Result<Option<u32>, TextFault>
+        requires { self.old.ended + 1 < 2 ^ 64 }
+        ensures next { IfOk result (λ _. advanced self.old byte ≡ Ok self.new) }
+        ensures word { IfOk result (λ word. option_to_list word ≡ ended_word self.old byte) }
+        ensures fault { IfErr result (λ fault. advanced self.old byte ≡ Err fault) }
+        ensures lines { IfOk result (λ _. self.new.ended ≤ self.old.ended + 1) }
     {
-        let ended = self.ended;
         if byte == b'\n' {
-            return Ok(Reading {
-                ended: ended + 1,
-                place: Place::Before,
-            });
+            let word = self.word();
+            self.ended += 1;
+            self.place = Place::Before;
+            return Ok(word);
         }
-        let line = ended + 1;
-        let place = step(&self.place, kind_of(byte)).map_err(|reason| TextFault { line, reason })?;
-        Ok(Reading { ended, place })
-    }
-
-    /// The word of the line that this byte ends, if it ends one that has a word.
-    pub fn ended_word(&self, byte: u8) -> Option<u32>
-        ensures { option_to_list result ≡ ended_word self.now byte }
-    {
-        if byte == b'\n' { self.word() } else { None }
+        match step(&self.place, kind_of(byte)) {
+            Ok(place) => self.place = place,
+            Err(reason) => {
+                return Err(TextFault {
+                    line: self.ended + 1,
+                    reason,
+                });
+            }
+        }
+        Ok(None)
     }
 
     /// The word of the line, if the text ends here.
