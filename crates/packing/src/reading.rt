@@ -30,15 +30,8 @@ impl Reading {
             self.place = Place::Before;
             return Ok(word);
         }
-        match step(&self.place, kind_of(byte)) {
-            Ok(place) => self.place = place,
-            Err(reason) => {
-                return Err(TextFault {
-                    line: self.ended + 1,
-                    reason,
-                });
-            }
-        }
+        let line = self.ended + 1;
+        self.place = step(&self.place, kind_of(byte)).map_err(|reason| TextFault { line, reason })?;
         Ok(None)
     }
 
