@@ -21,7 +21,8 @@ kind_of byte =
     (cond (byte == 32 || (byte == 9 || byte == 13)) Blank
     (cond (byte == 35) Hash Other))))
 
-abbrev pub on_within : Option (Written) → Result Place Reason
+-- inside a word, unless there is no room for the digit
+abbrev pub on_within : Option Written → Result Place Reason
 on_within (Some spelled) = Ok (Within spelled)
 on_within None = Err TooLong
 
