@@ -36,6 +36,7 @@ pub fn image_of(heap: Global, words: &[u32]) -> Result<Image, PackError>
 {
     let bytes = pack(heap, words)?;
     let mut image = Image::new(heap);
+    // No `?`: what was packed is never refused, so only want of memory is passed on.
     match image.open(heap, bytes.as_slice()) {
         Ok(()) => Ok(image),
         Err(OpenError::Refused(_)) => unreachable(),
