@@ -1,0 +1,22 @@
+-- What a routine does on the memories that the programs make.
+use Rattle.std.specs.Prelude.{ℕ, List, replicate}
+use Rattle.memory.specs.Bank.{bank_words, everywhere}
+use Rattle.memory.specs.Meaning.{one_tag}
+use Rattle.memory.specs.declared.bank.Bank.{Bank}
+use Rattle.image.specs.Images.{image_words}
+use Rattle.image.specs.Serving.{served}
+use Rattle.image.specs.declared.image.Image.{Image}
+use Rattle.image.specs.declared.store.ImageStore.{ImageStore}
+use Rattle.stepper.specs.Run.{first_events}
+use Rattle.stepper.specs.Step.{setting}
+use Rattle.stepper.specs.declared.event.Event.{Event}
+
+-- the stepper's first events on a store and a data memory
+abbrev pub events_on : ImageStore → Bank → ℕ → List Event
+events_on store memory limit =
+    first_events (setting (served (image_words store.image.now)) (one_tag store.tag) (one_tag memory.tag) everywhere) (bank_words memory.base memory.words.now) limit
+
+-- the same on an image and 1,024 zeros from address 0 on, both under tag 0
+abbrev pub image_events : Image → ℕ → List Event
+image_events image limit =
+    first_events (setting (served (image_words image)) (one_tag 0) (one_tag 0) everywhere) (bank_words 0 (replicate 1024 0)) limit
