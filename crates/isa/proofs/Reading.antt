@@ -1,24 +1,21 @@
 -- A word whose fields have an instruction's values decodes to the instruction.
-use Rattle.std.proofs.Common.{◌≡◌, ℕ, Bool, true, false, eqb, ℤ, pos, negsuc, Some, refl, ap, ◌∙◌, arith}
+use Rattle.std.proofs.Common.{◌≡◌, ℕ, Bool, true, false, eqb, ℤ, pos, negsuc, Some, ap, ◌∙◌, arith}
 use Rattle.std.proofs.lemmas.Int.{ints}
 use Rattle.std.proofs.lemmas.Bool.{cond-true, cond-false, eq-eqb, ne_eqb}
 use Rattle.std.proofs.lemmas.Bool.Decides.{nat_tests}
 use Rattle.isa.proofs.Choosing.{then_on}
 use Rattle.isa.proofs.Naming.{named}
-use Rattle.isa.specs.Conditions.{condition_of, condition_number}
+use Rattle.isa.specs.Conditions.{condition_of}
 use Rattle.isa.specs.Decoding.{decoded, action_of, data_of, if_in_subset, operand_of, transfer_of}
 use Rattle.isa.specs.Encoding.{sound, immediate, operand_fields, action_fields, transfer_fields, data_fields, fields_of}
 use Rattle.isa.specs.Laws.{Reads}
 use Rattle.isa.specs.Layout.{CONDITION, KIND, DATA, IMMEDIATE, OPCODE, SET, RN, RD, ROTATION, SHIFT, RM, TRANSFER, LDR, STR, BRANCH, B, field}
-use Rattle.isa.specs.Operations.{operation_of, operation_number, in_subset}
+use Rattle.isa.specs.Operations.{operation_of, in_subset}
 use Rattle.isa.specs.Registers.{register}
 use Rattle.isa.specs.StatusFlags.{bit}
 use Rattle.isa.specs.TwosComplement.{signed, low_bits, fits_signed}
-use Rattle.isa.specs.declared.condition.Condition.{Condition}
-use Rattle.isa.specs.declared.condition.Condition.TheVariants.{Eq, Ne, Cs, Cc, Mi, Pl, Vs, Vc, Hi, Ls, Ge, Lt, Gt, Le, Al}
+use Rattle.isa.specs.Found.{condition_found, operation_found}
 use Rattle.isa.specs.declared.fields.Field.{Field}
-use Rattle.isa.specs.declared.operation.Operation.{Operation}
-use Rattle.isa.specs.declared.operation.Operation.TheVariants.{And, Sub, Add, Cmp, Orr}
 use Rattle.isa.specs.declared.register.Register.{Register}
 use Rattle.isa.specs.declared.instruction.Operand.{Operand}
 use Rattle.isa.specs.declared.instruction.Operand.TheVariants.{Constant, Register as InRegister}
@@ -27,32 +24,6 @@ use Rattle.isa.specs.declared.instruction.Transfer.{Transfer}
 use Rattle.isa.specs.declared.instruction.Action.{Action}
 use Rattle.isa.specs.declared.instruction.Action.TheVariants.{Data, Load, Store, Branch}
 use Rattle.isa.specs.declared.instruction.Instruction.{Instruction}
-
--- a condition is found by its number
-condition_found : (c : Condition) → condition_of (condition_number c) ≡ Some c
-condition_found Eq = refl
-condition_found Ne = refl
-condition_found Cs = refl
-condition_found Cc = refl
-condition_found Mi = refl
-condition_found Pl = refl
-condition_found Vs = refl
-condition_found Vc = refl
-condition_found Hi = refl
-condition_found Ls = refl
-condition_found Ge = refl
-condition_found Lt = refl
-condition_found Gt = refl
-condition_found Le = refl
-condition_found Al = refl
-
--- and so is an operation
-operation_found : (o : Operation) → operation_of (operation_number o) ≡ Some o
-operation_found And = refl
-operation_found Sub = refl
-operation_found Add = refl
-operation_found Cmp = refl
-operation_found Orr = refl
 
 -- a register's number in a field names the register
 register_read : (f : Field) (a : Register) (word : ℕ) → field f word ≡ a.number → register (field f word) ≡ a

@@ -1,6 +1,7 @@
 pub mod Registers
 pub mod StatusFlags
 pub mod Numbered
+pub mod Found
 pub mod Conditions
 pub mod Operations
 pub mod TwosComplement

@@ -1,5 +1,6 @@
 -- The text of an instruction at an address, in the manual's syntax. A text is its bytes.
-use Rattle.std.specs.Prelude.{ℕ, ◌+◌, ◌%◌, ◌^◌, cond, List, [], ◌∷◌, ◌++◌, ℤ, codes, decimal, ◌==◌}
+use Rattle.std.specs.Prelude.{ℕ, ◌+◌, ◌%◌, ◌^◌, cond, List, [], ◌∷◌, ◌++◌, ℤ, Some, None, Option, codes, decimal, ◌==◌}
+use Rattle.isa.specs.Decoding.{decoded}
 use Rattle.isa.specs.Hexadecimal.{hex_text}
 use Rattle.isa.specs.Roles.{byte_offset}
 use Rattle.isa.specs.declared.assembly.Assembly.{Assembly}
@@ -8,6 +9,7 @@ use Rattle.isa.specs.declared.condition.Condition.TheVariants.{Eq, Ne, Cs, Cc, M
 use Rattle.isa.specs.declared.operation.Operation.{Operation}
 use Rattle.isa.specs.declared.operation.Operation.TheVariants.{And, Sub, Add, Cmp, Orr}
 use Rattle.isa.specs.declared.register.Register.{Register}
+use Rattle.isa.specs.declared.instruction.Instruction.{Instruction}
 use Rattle.isa.specs.declared.instruction.Operand.{Operand}
 use Rattle.isa.specs.declared.instruction.Operand.TheVariants.{Constant, Register as InRegister}
 use Rattle.isa.specs.declared.instruction.DataProcessing.{DataProcessing}
@@ -93,3 +95,12 @@ action_text address suffix (Branch offset) =
 
 abbrev pub assembly_text : Assembly → List ℕ
 assembly_text a = action_text a.address (condition_text a.instruction.condition) a.instruction.action
+
+-- an instruction at an address, or a dash
+abbrev pub or_dash : ℕ → Option Instruction → List ℕ
+or_dash address None = codes "-"
+or_dash address (Some i) = assembly_text (record { address = address; instruction = i })
+
+-- what a word at an address prints as
+abbrev pub word_text : ℕ → ℕ → List ℕ
+word_text address word = or_dash address (decoded word)

@@ -12,45 +12,48 @@ use super::roles::byte_offset;
 use std::fmt;
 
 /// An instruction and where it stands, which a branch needs to name its target.
-#[derive(Clone, Copy)]
+#[derive(Clone, Copy, PartialEq, Eq, Debug)]
 pub struct Assembly {
     pub address: u32,
     pub instruction: Instruction,
 }
 
 /// What a condition adds to the mnemonic.
-fn suffix(condition: Condition) -> &'static str
-    ensures { result.now ≡ condition_text condition }
-{
-    match condition {
-        Condition::Eq => "EQ",
-        Condition::Ne => "NE",
-        Condition::Cs => "CS",
-        Condition::Cc => "CC",
-        Condition::Mi => "MI",
-        Condition::Pl => "PL",
-        Condition::Vs => "VS",
-        Condition::Vc => "VC",
-        Condition::Hi => "HI",
-        Condition::Ls => "LS",
-        Condition::Ge => "GE",
-        Condition::Lt => "LT",
-        Condition::Gt => "GT",
-        Condition::Le => "LE",
-        Condition::Al => "",
+impl fmt::Display for Condition {
+    ghost output = { λ c. Some (condition_text c) };
+
+    fn fmt<W: fmt::Write>(&self, f: &mut fmt::Formatter<W>) -> fmt::Result {
+        f.write_str(match self {
+            Condition::Eq => "EQ",
+            Condition::Ne => "NE",
+            Condition::Cs => "CS",
+            Condition::Cc => "CC",
+            Condition::Mi => "MI",
+            Condition::Pl => "PL",
+            Condition::Vs => "VS",
+            Condition::Vc => "VC",
+            Condition::Hi => "HI",
+            Condition::Ls => "LS",
+            Condition::Ge => "GE",
+            Condition::Lt => "LT",
+            Condition::Gt => "GT",
+            Condition::Le => "LE",
+            Condition::Al => "",
+        })
     }
 }
 
-/// An operation's name.
-fn mnemonic(operation: Operation) -> &'static str
-    ensures { result.now ≡ operation_text operation }
-{
-    match operation {
-        Operation::And => "AND",
-        Operation::Sub => "SUB",
-        Operation::Add => "ADD",
-        Operation::Cmp => "CMP",
-        Operation::Orr => "ORR",
+impl fmt::Display for Operation {
+    ghost output = { λ o. Some (operation_text o) };
+
+    fn fmt<W: fmt::Write>(&self, f: &mut fmt::Formatter<W>) -> fmt::Result {
+        f.write_str(match self {
+            Operation::And => "AND",
+            Operation::Sub => "SUB",
+            Operation::Add => "ADD",
+            Operation::Cmp => "CMP",
+            Operation::Orr => "ORR",
+        })
     }
 }
 
@@ -91,8 +94,8 @@ impl fmt::Display for Assembly {
     ghost output = { λ a. Some (assembly_text a) };
 
     fn fmt<W: fmt::Write>(&self, f: &mut fmt::Formatter<W>) -> fmt::Result {
-        let suffix = suffix(self.instruction.condition);
-        match self.instruction.action {
+        let Instruction { condition, action } = self.instruction;
+        match action {
             Action::Data(data) => {
                 let DataProcessing {
                     operation,
@@ -101,18 +104,17 @@ impl fmt::Display for Assembly {
                     rd,
                     operand,
                 } = data;
-                let mnemonic = mnemonic(operation);
                 let s = if set_flags { "S" } else { "" };
                 match operation {
-                    Operation::Cmp => write!(f, "{mnemonic}{suffix} {rn}, {operand}"),
-                    _ => write!(f, "{mnemonic}{s}{suffix} {rd}, {rn}, {operand}"),
+                    Operation::Cmp => write!(f, "{operation}{condition} {rn}, {operand}"),
+                    _ => write!(f, "{operation}{s}{condition} {rd}, {rn}, {operand}"),
                 }
             }
-            Action::Load(transfer) => write!(f, "LDR{suffix} {transfer}"),
-            Action::Store(transfer) => write!(f, "STR{suffix} {transfer}"),
+            Action::Load(transfer) => write!(f, "LDR{condition} {transfer}"),
+            Action::Store(transfer) => write!(f, "STR{condition} {transfer}"),
             Action::Branch { offset } => {
                 let target = Hex(branch_target(self.address, offset));
-                write!(f, "B{suffix} 0x{target}")
+                write!(f, "B{condition} 0x{target}")
             }
         }
     }

@@ -1,12 +1,14 @@
 //! The conditions under which an instruction is done.
 
 ghost use Rattle.std.specs.Prelude.{◌≡◌};
-ghost use Rattle.isa.specs.Conditions.{condition_holds, condition_of, condition_number};
+ghost use Rattle.isa.specs.Conditions.{condition_holds, conditions, condition_number};
+ghost use Rattle.isa.specs.Found.{condition_found};
 
 use super::flags::Flags;
+use super::numbered::Numbered;
 
 /// In the manual's order, which is that of their numbers.
-#[derive(Clone, Copy)]
+#[derive(Clone, Copy, PartialEq, Eq, Debug)]
 pub enum Condition {
     Eq,
     Ne,
@@ -48,18 +50,20 @@ impl Condition {
             Condition::Al => true,
         }
     }
+}
 
-    /// The number that stands for the condition in a word.
-    pub(crate) fn number(self) -> u8
-        ensures { result ≡ condition_number self }
-    {
+impl Numbered for Condition {
+    ghost all = { conditions };
+
+    ghost number_of = { condition_number };
+
+    ghost found = { condition_found };
+
+    fn number(self) -> u8 {
         self as u8
     }
 
-    /// The condition of a number, if there is one.
-    pub(crate) fn from_number(number: u32) -> Option<Condition>
-        ensures { result ≡ condition_of number }
-    {
+    fn from_number(number: u32) -> Option<Condition> {
         match number {
             0 => Some(Condition::Eq),
             1 => Some(Condition::Ne),

@@ -16,7 +16,7 @@ pub fn decode(word: u32) -> Option<Instruction>
     ensures value { result ≡ decoded word }
     ensures exact { (i : Instruction) → result ≡ Some i → encoded i ≡ Ok word }
 {
-    let condition = Condition::from_number(CONDITION.of(word))?;
+    let condition: Condition = CONDITION.named(word)?;
     let action = action_of(word)?;
     Some(Instruction { condition, action })
 }
@@ -43,7 +43,7 @@ fn action_of(word: u32) -> Option<Action>
 fn data_of(word: u32) -> Option<Action>
     ensures { result ≡ data_action word }
 {
-    let operation = Operation::from_number(OPCODE.of(word))?;
+    let operation: Operation = OPCODE.named(word)?;
     let operand = operand_of(word)?;
     let data = DataProcessing {
         operation,
@@ -52,11 +52,7 @@ fn data_of(word: u32) -> Option<Action>
         rd: Register::named_by(RD.of(word)),
         operand,
     };
-    if data.in_subset() {
-        Some(Action::Data(data))
-    } else {
-        None
-    }
+    data.in_subset().then_some(Action::Data(data))
 }
 
 /// A constant or a register; bits that would rotate or shift it have to be 0.
@@ -64,15 +60,11 @@ fn operand_of(word: u32) -> Option<Operand>
     ensures { result ≡ operand_of word }
 {
     if IMMEDIATE.of(word) == 1 {
-        if ROTATION.of(word) != 0 {
-            return None;
-        }
-        Some(Operand::Constant(CONSTANT.of(word) as u8))
+        let constant = Operand::Constant(CONSTANT.of(word) as u8);
+        (ROTATION.of(word) == 0).then_some(constant)
     } else {
-        if SHIFT.of(word) != 0 {
-            return None;
-        }
-        Some(Operand::Register(Register::named_by(RM.of(word))))
+        let rm = Operand::Register(Register::named_by(RM.of(word)));
+        (SHIFT.of(word) == 0).then_some(rm)
     }
 }
 

@@ -8,9 +8,10 @@ ghost use Rattle.isa.specs.Refusals.{no_word};
 
 use super::fields::*;
 use super::instruction::{Action, DataProcessing, Instruction, Operand, Transfer};
+use super::numbered::Numbered;
 
 /// No word stands for the instruction.
-#[derive(Clone, Copy)]
+#[derive(Clone, Copy, PartialEq, Eq, Debug)]
 pub struct NoWord;
 
 impl NoWord {

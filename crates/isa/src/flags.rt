@@ -4,7 +4,7 @@ ghost use Rattle.std.specs.Prelude.{◌≡◌};
 ghost use Rattle.isa.specs.StatusFlags.{flag_bits};
 
 /// Negative, zero, carry and overflow, as the last instruction that sets flags left them.
-#[derive(Clone, Copy)]
+#[derive(Clone, Copy, PartialEq, Eq, Default, Debug)]
 pub struct Flags {
     pub n: bool,
     pub z: bool,

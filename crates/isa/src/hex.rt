@@ -5,53 +5,43 @@ ghost use Rattle.isa.specs.Hexadecimal.{digit_code, hex_text};
 
 use std::fmt;
 
-/// 0 to 9, then a to f.
-fn glyph(digit: u8) -> char
-    requires { digit < 16 }
-    ensures value { result ≡ digit_code digit }
-    ensures ascii { result < 128 }
+/// The lowest hexadecimal digit of a number: 0 to 9, then a to f.
+fn digit(number: u32) -> u8
+    ensures { result ≡ digit_code (number % 16) }
 {
-    let code = if digit < 10 {
+    let digit = (number % 16) as u8;
+    if digit < 10 {
         b'0' + digit
     } else {
         b'a' - 10 + digit
-    };
-    char::from(code)
-}
-
-/// The lowest hexadecimal digit of a number.
-#[derive(Clone, Copy)]
-struct Digit(u32);
-
-impl fmt::Display for Digit {
-    ghost output = { λ d. Some (digit_code (d.0 % 16) ∷ []) };
-
-    fn fmt<W: fmt::Write>(&self, f: &mut fmt::Formatter<W>) -> fmt::Result {
-        let glyph = glyph((self.0 % 16) as u8);
-        write!(f, "{glyph}")
     }
 }
 
 /// A word in eight digits.
-#[derive(Clone, Copy)]
+pub fn digits(word: u32) -> [u8; 8]
+    ensures { result ≡ hex_text word }
+{
+    [
+        digit(word >> 28),
+        digit(word >> 24),
+        digit(word >> 20),
+        digit(word >> 16),
+        digit(word >> 12),
+        digit(word >> 8),
+        digit(word >> 4),
+        digit(word),
+    ]
+}
+
+/// A word that is printed in eight digits.
+#[derive(Clone, Copy, PartialEq, Eq, Debug)]
 pub struct Hex(pub u32);
 
 impl fmt::Display for Hex {
     ghost output = { λ w. Some (hex_text w.0) };
 
     fn fmt<W: fmt::Write>(&self, f: &mut fmt::Formatter<W>) -> fmt::Result {
-        let word = self.0;
-        write!(
-            f,
-            "{}{}{}{}{}{}{}{}",
-            Digit(word >> 28),
-            Digit(word >> 24),
-            Digit(word >> 20),
-            Digit(word >> 16),
-            Digit(word >> 12),
-            Digit(word >> 8),
-            Digit(word >> 4),
-            Digit(word)
-        )
+        let [a, b, c, d] = self.0.to_be_bytes();
+        write!(f, "{a:02x}{b:02x}{c:02x}{d:02x}")
     }
 }

@@ -8,14 +8,14 @@ use super::operation::Operation;
 use super::register::Register;
 
 /// The second operand of a data-processing instruction.
-#[derive(Clone, Copy)]
+#[derive(Clone, Copy, PartialEq, Eq, Debug)]
 pub enum Operand {
     Constant(u8),
     Register(Register),
 }
 
 /// Rd becomes Rn with the operand; CMP only compares, and its Rd is 0.
-#[derive(Clone, Copy)]
+#[derive(Clone, Copy, PartialEq, Eq, Debug)]
 pub struct DataProcessing {
     pub operation: Operation,
     pub set_flags: bool,
@@ -37,7 +37,7 @@ impl DataProcessing {
 }
 
 /// Rd and the word at Rn + offset.
-#[derive(Clone, Copy)]
+#[derive(Clone, Copy, PartialEq, Eq, Debug)]
 pub struct Transfer {
     pub rn: Register,
     pub rd: Register,
@@ -45,7 +45,7 @@ pub struct Transfer {
 }
 
 /// What is done.
-#[derive(Clone, Copy)]
+#[derive(Clone, Copy, PartialEq, Eq, Debug)]
 pub enum Action {
     Data(DataProcessing),
     Load(Transfer),
@@ -56,7 +56,7 @@ pub enum Action {
 
 /// An action and the condition under which it is done. Not every value has a word: a field may be too large for its
 /// place, and some combinations lie outside the subset.
-#[derive(Clone, Copy)]
+#[derive(Clone, Copy, PartialEq, Eq, Debug)]
 pub struct Instruction {
     pub condition: Condition,
     pub action: Action,

@@ -1,36 +1,32 @@
 //! The operations of the arithmetic unit, by name and by number.
 
-ghost use Rattle.std.specs.Prelude.{◌≡◌};
-ghost use Rattle.isa.specs.Operations.{operation_of, operation_number};
+ghost use Rattle.isa.specs.Operations.{operations, operation_number};
+ghost use Rattle.isa.specs.Found.{operation_found};
 
-/// The five of the subset.
-#[derive(Clone, Copy)]
+use super::numbered::Numbered;
+
+/// The five of the subset, with the number that stands for each in a word.
+#[derive(Clone, Copy, PartialEq, Eq, Debug)]
 pub enum Operation {
-    And,
-    Sub,
-    Add,
-    Cmp,
-    Orr,
+    And = 0,
+    Sub = 2,
+    Add = 4,
+    Cmp = 10,
+    Orr = 12,
 }
 
-impl Operation {
-    /// The number that stands for the operation in a word.
-    pub(crate) fn number(self) -> u8
-        ensures { result ≡ operation_number self }
-    {
-        match self {
-            Operation::And => 0,
-            Operation::Sub => 2,
-            Operation::Add => 4,
-            Operation::Cmp => 10,
-            Operation::Orr => 12,
-        }
+impl Numbered for Operation {
+    ghost all = { operations };
+
+    ghost number_of = { operation_number };
+
+    ghost found = { operation_found };
+
+    fn number(self) -> u8 {
+        self as u8
     }
 
-    /// The operation of a number, if the subset has it.
-    pub(crate) fn from_number(number: u32) -> Option<Operation>
-        ensures { result ≡ operation_of number }
-    {
+    fn from_number(number: u32) -> Option<Operation> {
         match number {
             0 => Some(Operation::And),
             2 => Some(Operation::Sub),

@@ -2,7 +2,7 @@
 
 ghost use Rattle.std.specs.Prelude.{◌≡◌};
 ghost use Rattle.isa.specs.TwosComplement.{low_bits};
-ghost use Rattle.isa.specs.Roles.{first_source, second_source, destination_of, low_register, operand_value, byte_offset};
+ghost use Rattle.isa.specs.Roles.{first_source, second_source, destination_of, is_15, is_source, low_register, operand_value, byte_offset};
 
 use super::instruction::{Action, Instruction, Operand};
 use super::operation::Operation;
@@ -16,7 +16,7 @@ impl Instruction {
         match &self.action {
             Action::Data(data) => data.rn,
             Action::Load(transfer) | Action::Store(transfer) => transfer.rn,
-            Action::Branch { offset: _ } => Register::named_by(15),
+            Action::Branch { .. } => Register::named_by(15),
         }
     }
 
@@ -42,8 +42,22 @@ impl Instruction {
                 _ => Some(data.rd),
             },
             Action::Load(transfer) => Some(transfer.rd),
-            Action::Store(_) | Action::Branch { offset: _ } => None,
+            Action::Store(_) | Action::Branch { .. } => None,
         }
+    }
+
+    /// Whether it writes register 15, the next address, if it is done.
+    pub fn writes_15(self) -> bool
+        ensures { result ≡ is_15 (destination_of self.action) }
+    {
+        self.destination().is_some_and(|rd| rd.number() == 15)
+    }
+
+    /// Whether the register is one of its two sources, used or not.
+    pub fn reads(self, register: Register) -> bool
+        ensures { result ≡ is_source register self.action }
+    {
+        register == self.first_source() || register == self.second_source()
     }
 }
 

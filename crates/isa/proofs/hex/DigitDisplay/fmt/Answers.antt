@@ -1,7 +1,0 @@
--- A hexadecimal digit is one byte.
-use Rattle.std.proofs.Common.{rules}
-use Rattle.std.proofs.lemmas.Str.{encode_ascii}
-use Rattle.isa.proofs.hex.DigitDisplay.fmt.Goals as goal
-
-pub returns-clause-writes : goal.returns-clause-writes
-returns-clause-writes g c = search (rules, encode_ascii)
