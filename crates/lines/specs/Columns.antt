@@ -2,10 +2,8 @@
 use Rattle.std.specs.Prelude.{ℕ, Bool, cond, List, [], ◌++◌, Some, None, codes, decimal, Option}
 use Rattle.memory.specs.Fault.{number}
 use Rattle.memory.specs.declared.fault.Fault.{Fault}
-use Rattle.isa.specs.Decoding.{decoded}
-use Rattle.isa.specs.Syntax.{assembly_text, register_text}
+use Rattle.isa.specs.Syntax.{register_text, word_text}
 use Rattle.isa.specs.declared.flags.Flags.{Flags}
-use Rattle.isa.specs.declared.instruction.Instruction.{Instruction}
 use Rattle.stepper.specs.Events.{stop_number, stop_fault}
 use Rattle.stepper.specs.declared.event.Event.{Event}
 use Rattle.stepper.specs.declared.event.Kind.{Kind}
@@ -49,11 +47,6 @@ effect_text Done register store = change_text register store
 effect_text Skipped register store = change_text register store
 effect_text (Stopped stop) register store = stop_text stop
 
--- an instruction at an address, or a dash
-abbrev pub or_dash : ℕ → Option Instruction → List ℕ
-or_dash address None = codes "-"
-or_dash address (Some i) = assembly_text (record { address = address; instruction = i })
-
 -- where no word was read there is no instruction, though the event's word is then 0
 abbrev pub if_read : Kind → List ℕ → List ℕ
 if_read Done text = text
@@ -63,4 +56,4 @@ if_read (Stopped Outside) text = text
 if_read (Stopped (Access fault)) text = text
 
 abbrev pub instruction_text : Event → List ℕ
-instruction_text e = if_read e.kind (or_dash e.address (decoded e.word))
+instruction_text e = if_read e.kind (word_text e.address e.word)

@@ -3,7 +3,8 @@
 ghost use Rattle.std.specs.Prelude.{◌≡◌, ◌+◌, ◌≤◌, ◌++◌, length, drop};
 ghost use Rattle.report.specs.ListingLine.{address_field, cause_mark, event_field, spaced, stop_mark, line_text};
 
-use super::text::{Text, digits};
+use super::text::Text;
+use isa::hex::digits;
 use pipeline::calls::SlotAddresses;
 use pipeline::clock::Handed;
 use stepper::event::{Kind, Stop};

@@ -1,7 +1,6 @@
 //! The text of a line while it is made, with no heap.
 
 ghost use Rattle.std.specs.Prelude.{◌≡◌, ◌+◌, ◌%◌, ◌≤◌, [], ◌++◌, length, take, drop, decimal, List, ℕ};
-ghost use Rattle.isa.specs.Hexadecimal.{digit_code, hex_text};
 
 use std::marker::Model;
 
@@ -62,32 +61,4 @@ impl Text {
         buffer[..self.length].copy_from_slice(&self.bytes[..self.length]);
         self.length
     }
-}
-
-// The lowest hexadecimal digit of a number: 0 to 9, then a to f.
-fn digit(number: u32) -> u8
-    ensures { result ≡ digit_code (number % 16) }
-{
-    let digit = (number % 16) as u8;
-    if digit < 10 {
-        b'0' + digit
-    } else {
-        b'a' - 10 + digit
-    }
-}
-
-/// A word in eight hexadecimal digits.
-pub(super) fn digits(word: u32) -> [u8; 8]
-    ensures { result ≡ hex_text word }
-{
-    [
-        digit(word >> 28),
-        digit(word >> 24),
-        digit(word >> 20),
-        digit(word >> 16),
-        digit(word >> 12),
-        digit(word >> 8),
-        digit(word >> 4),
-        digit(word),
-    ]
 }
