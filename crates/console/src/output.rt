@@ -1,4 +1,10 @@
 // Tables of events and clocks.
+ghost use Rattle.std.specs.Prelude.{◌≡◌, OnOk};
+ghost use Rattle.std.specs.Io.KnownBytes.{Appends};
+ghost use Rattle.stepper.specs.Step.{setting};
+ghost use Rattle.pipeline.specs.Clock.{machine};
+ghost use Rattle.console.specs.Listing.{after_calls, listing};
+
 use lines::Line;
 use memory::store::{Memory, Store};
 use pipeline::state::Core;
@@ -7,7 +13,7 @@ use std::alloc::Global;
 use std::io::Write;
 use stepper::event::Event;
 
-/// Writes the lines of events, counted from 1.
+/// Writes the lines of events, counted from 1. No contract says what a line prints, so none says what is written.
 pub fn print_events<W: Write>(heap: Global, out: &mut W, events: &[Event]) -> anyhow::Result<()> {
     for (number, event) in (1..=u32::MAX).zip(events) {
         let line = Line::new(heap, number, *event)?;
@@ -23,9 +29,14 @@ pub fn print_listing<W: Write, S: Store, M: Memory>(
     store: &S,
     memory: &mut M,
     limit: u32,
-) -> anyhow::Result<()> {
+) -> anyhow::Result<()>
+    ensures lines { OnOk result (Appends (W.contents out.old) (W.contents out.new) (listing (setting (S.Store.word_at store.now) (S.Store.tag_at store.now) (M.Store.tag_at memory.old) (M.Memory.writable_at memory.old)) (machine core.old (M.Store.word_at memory.old)) limit)) }
+    ensures clocks { OnOk result (machine core.new (M.Store.word_at memory.new) ≡ after_calls (setting (S.Store.word_at store.now) (S.Store.tag_at store.now) (M.Store.tag_at memory.old) (M.Memory.writable_at memory.old)) (machine core.old (M.Store.word_at memory.old)) limit) }
+    ensures tags { M.Store.tag_at memory.new ≡ M.Store.tag_at memory.old }
+    ensures writability { M.Memory.writable_at memory.new ≡ M.Memory.writable_at memory.old }
+{
     let mut buffer = [0u8; 80];
-    for _clock in 0..limit {
+    for clock in 0..limit {
         let Ok(listed) = clock_line(core, store, memory, &mut buffer) else {
             break;
         };
