@@ -1,14 +1,13 @@
 // In which clock each event is due.
 ghost use Rattle.std.specs.Prelude.{◌≡◌, ◌^◌, ◌<◌, IfOk};
 ghost use Rattle.law.specs.DueClocks.{DueTable, further, nothing_due};
-ghost use Rattle.refinement.specs.ClockLaw.{bit};
 
 use crate::sorts::{done_write_15, feeds, skipped_write_15, taken_branch};
 use std::alloc::{AllocError, Global};
 use stepper::event::Event;
 
 /// Clocks lost until an event was handed out, by what cost them. No list of events can exceed the type.
-#[derive(Clone, Copy)]
+#[derive(Clone, Copy, PartialEq, Eq, Default, Debug)]
 pub struct Lost {
     /// Waiting for a load.
     pub stalls: u128,
@@ -21,16 +20,10 @@ pub struct Lost {
 }
 
 /// The clock in which an event is handed out, and the clocks lost on the way.
-#[derive(Clone, Copy)]
+#[derive(Clone, Copy, PartialEq, Eq, Debug)]
 pub struct Due {
     pub clock: u128,
     pub lost: Lost,
-}
-
-fn one_if(fact: bool) -> u128
-    ensures { result ≡ bit fact }
-{
-    if fact { 1 } else { 0 }
 }
 
 impl Due {
@@ -38,13 +31,10 @@ impl Due {
     fn nothing() -> Due
         ensures { result ≡ nothing_due }
     {
-        let lost = Lost {
-            stalls: 0,
-            branches: 0,
-            done_writes: 0,
-            skipped_writes: 0,
-        };
-        Due { clock: 4, lost }
+        Due {
+            clock: 4,
+            lost: Lost::default(),
+        }
     }
 
     // One event further, behind another if there is one.
@@ -62,10 +52,10 @@ impl Due {
                 lost: self.lost,
             };
         };
-        let stall = one_if(feeds(event, next));
-        let branch = 2 * one_if(taken_branch(event));
-        let done_write = 4 * one_if(done_write_15(event));
-        let skipped_write = 2 * one_if(skipped_write_15(event));
+        let stall = u128::from(feeds(event, next));
+        let branch = 2 * u128::from(taken_branch(event));
+        let done_write = 4 * u128::from(done_write_15(event));
+        let skipped_write = 2 * u128::from(skipped_write_15(event));
         let lost = Lost {
             stalls: self.lost.stalls + stall,
             branches: self.lost.branches + branch,

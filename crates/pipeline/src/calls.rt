@@ -1,8 +1,10 @@
 // The calls that users make on a core.
 ghost use Rattle.std.specs.Prelude.{◌≡◌, ◌+◌, ◌<◌, length, Some, None};
 ghost use Rattle.std.specs.Option.{option_to_list};
+ghost use Rattle.std.specs.Result.{result_err};
 ghost use Rattle.stepper.specs.Registers.{cell_of};
-ghost use Rattle.stepper.specs.Step.{setting};
+ghost use Rattle.stepper.specs.Memories.{setting_of};
+ghost use Rattle.memory.specs.Keeping.{OnlyWordsChange};
 ghost use Rattle.pipeline.specs.Clock.{machine, reset};
 ghost use Rattle.pipeline.specs.Calls.{refusal_number, reason_number, clock_refusal, run_refusal, addresses_in, stop_in, placed, end_of, Clocks, RunAnswers};
 
@@ -24,17 +26,17 @@ pub const MOST_PLACES: usize = 4096;
 #[derive(Clone, Copy, PartialEq, Eq, Debug)]
 pub enum Refusal {
     /// The core has stopped.
-    HasStopped,
+    HasStopped = 6,
     /// All clocks that may be made since the last reset were made.
-    NoClocksLeft,
+    NoClocksLeft = 7,
     /// The budget is 0 or above 1,000,000.
-    BadBudget,
+    BadBudget = 8,
     /// The list has no place or more than 4,096.
-    BadList,
+    BadList = 9,
 }
 
 /// Why a run ended.
-#[derive(Clone, Copy)]
+#[derive(Clone, Copy, PartialEq, Eq, Debug)]
 pub enum Reason {
     /// This stop was handed out, with its cause, instruction and fault; it is the last event in the list too.
     Stop(Event),
@@ -47,7 +49,7 @@ pub enum Reason {
 }
 
 /// What a run did: how many clocks it made, how many events it wrote, and why it ended.
-#[derive(Clone, Copy)]
+#[derive(Clone, Copy, PartialEq, Eq, Debug)]
 pub struct Ran {
     pub clocks: u32,
     pub events: usize,
@@ -55,7 +57,7 @@ pub struct Ran {
 }
 
 /// The address in each slot, or none if the slot is empty.
-#[derive(Clone, Copy)]
+#[derive(Clone, Copy, PartialEq, Eq, Debug)]
 pub struct SlotAddresses {
     pub decode: Option<u32>,
     pub execute: Option<u32>,
@@ -68,12 +70,7 @@ impl Refusal {
     pub fn number(self) -> u8
         ensures { result ≡ refusal_number self }
     {
-        match self {
-            Refusal::HasStopped => 6,
-            Refusal::NoClocksLeft => 7,
-            Refusal::BadBudget => 8,
-            Refusal::BadList => 9,
-        }
+        self as u8
     }
 }
 
@@ -91,39 +88,39 @@ impl Reason {
     }
 }
 
-// Why the next clock would be refused, if it would.
-fn clock_refusal(core: &Core) -> Option<Refusal>
-    ensures { result ≡ clock_refusal core.now }
+// Whether the next clock may be made.
+fn check_clock(core: &Core) -> Result<(), Refusal>
+    ensures { result_err result ≡ clock_refusal core.now }
 {
     if core.stopped {
-        Some(Refusal::HasStopped)
+        Err(Refusal::HasStopped)
     } else if core.clocks >= MOST_CLOCKS {
-        Some(Refusal::NoClocksLeft)
+        Err(Refusal::NoClocksLeft)
     } else {
-        None
+        Ok(())
     }
 }
 
-fn run_refusal(core: &Core, budget: u32, places: usize) -> Option<Refusal>
-    ensures { result ≡ run_refusal budget places core.now }
+// Whether a run may begin.
+fn check_run(core: &Core, budget: u32, places: usize) -> Result<(), Refusal>
+    ensures { result_err result ≡ run_refusal budget places core.now }
 {
     if budget == 0 || budget > MOST_BUDGET {
-        return Some(Refusal::BadBudget);
+        return Err(Refusal::BadBudget);
     }
     if places == 0 || places > MOST_PLACES {
-        return Some(Refusal::BadList);
+        return Err(Refusal::BadList);
     }
-    clock_refusal(core)
+    check_clock(core)
 }
 
 // The stop that a clock handed out, if it did.
 fn stop_in(handed: Option<Handed>) -> Option<Event>
     ensures { result ≡ stop_in handed }
 {
-    match handed {
-        Some(handed) if matches!(handed.event.kind, Kind::Stopped(_)) => Some(handed.event),
-        _ => None,
-    }
+    handed
+        .map(|handed| handed.event)
+        .filter(|event| matches!(event.kind, Kind::Stopped(_)))
 }
 
 // Why a run ends after a clock, if it does.
@@ -185,35 +182,20 @@ impl Core {
         ensures { result ≡ addresses_in self.now.slots }
     {
         SlotAddresses {
-            decode: match self.slots.decode {
-                Some(slot) => Some(slot.address),
-                None => None,
-            },
-            execute: match self.slots.execute {
-                Some(slot) => Some(slot.address),
-                None => None,
-            },
-            memory: match self.slots.memory {
-                Some(slot) => Some(slot.address),
-                None => None,
-            },
-            writeback: match self.slots.writeback {
-                Some(slot) => Some(slot.event.address),
-                None => None,
-            },
+            decode: self.slots.decode.map(|slot| slot.address),
+            execute: self.slots.execute.map(|slot| slot.address),
+            memory: self.slots.memory.map(|slot| slot.address),
+            writeback: self.slots.writeback.map(|slot| slot.event.address),
         }
     }
 
     /// One cycle: the event that it hands out, if any, and its signals. Refused on a stopped core, and when all clocks
     /// were made.
     pub fn clock<S: Store, M: Memory>(&mut self, store: &S, memory: &mut M) -> Result<Tick, Refusal>
-        ensures clock { Clocks (setting (S.Store.word_at store.now) (S.Store.tag_at store.now) (M.Store.tag_at memory.old) (M.Memory.writable_at memory.old)) (machine self.old (M.Store.word_at memory.old)) result (machine self.new (M.Store.word_at memory.new)) }
-        ensures tags { M.Store.tag_at memory.new ≡ M.Store.tag_at memory.old }
-        ensures writability { M.Memory.writable_at memory.new ≡ M.Memory.writable_at memory.old }
+        ensures clock { Clocks (setting_of S.Store M.Store M.Memory.own store.now memory.old) (machine self.old (M.Store.word_at memory.old)) result (machine self.new (M.Store.word_at memory.new)) }
+        ensures rest { OnlyWordsChange M.Store M.Memory.own memory.old memory.new }
     {
-        if let Some(refusal) = clock_refusal(self) {
-            return Err(refusal);
-        }
+        check_clock(self)?;
         Ok(self.tick(store, memory))
     }
 
@@ -226,13 +208,10 @@ impl Core {
         budget: u32,
         list: &mut [Handed],
     ) -> Result<Ran, Refusal>
-        ensures run { RunAnswers (setting (S.Store.word_at store.now) (S.Store.tag_at store.now) (M.Store.tag_at memory.old) (M.Memory.writable_at memory.old)) (machine self.old (M.Store.word_at memory.old)) budget list.old result (machine self.new (M.Store.word_at memory.new)) list.new }
-        ensures tags { M.Store.tag_at memory.new ≡ M.Store.tag_at memory.old }
-        ensures writability { M.Memory.writable_at memory.new ≡ M.Memory.writable_at memory.old }
+        ensures run { RunAnswers (setting_of S.Store M.Store M.Memory.own store.now memory.old) (machine self.old (M.Store.word_at memory.old)) budget list.old result (machine self.new (M.Store.word_at memory.new)) list.new }
+        ensures rest { OnlyWordsChange M.Store M.Memory.own memory.old memory.new }
     {
-        if let Some(refusal) = run_refusal(self, budget, list.len()) {
-            return Err(refusal);
-        }
+        check_run(self, budget, list.len())?;
         let mut made = 0;
         let mut written = 0;
         'clocks: loop {

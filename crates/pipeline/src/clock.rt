@@ -1,6 +1,7 @@
 // One clock: the stages in their order, each looking at the slots as they stood before.
 ghost use Rattle.std.specs.Prelude.{◌≡◌, ◌+◌, ◌-◌, ◌^◌, ◌<◌};
-ghost use Rattle.stepper.specs.Step.{setting};
+ghost use Rattle.stepper.specs.Memories.{setting_of};
+ghost use Rattle.memory.specs.Keeping.{OnlyWordsChange};
 ghost use Rattle.pipeline.specs.Writeback.{handed_out};
 ghost use Rattle.pipeline.specs.Clock.{blank, stamped, machine, retired, signals_of, moved, clocked};
 
@@ -17,7 +18,7 @@ use memory::store::{Memory, Store};
 use stepper::event::{Event, Kind};
 
 /// An event as the core hands it out: with the number of the clock that does.
-#[derive(Clone, Copy)]
+#[derive(Clone, Copy, PartialEq, Eq, Debug)]
 pub struct Handed {
     pub event: Event,
     pub clock: u32,
@@ -28,18 +29,12 @@ impl Handed {
     pub fn blank() -> Handed
         ensures { result ≡ blank }
     {
-        let flags = Flags {
-            n: false,
-            z: false,
-            c: false,
-            v: false,
-        };
         Handed {
             event: Event {
                 address: 0,
                 word: 0,
                 kind: Kind::Skipped,
-                flags,
+                flags: Flags::default(),
                 register: None,
                 store: None,
             },
@@ -49,7 +44,7 @@ impl Handed {
 }
 
 /// What a clock answers.
-#[derive(Clone, Copy)]
+#[derive(Clone, Copy, PartialEq, Eq, Debug)]
 pub struct Tick {
     pub handed: Option<Handed>,
     pub signals: Signals,
@@ -64,13 +59,8 @@ impl Core {
     {
         self.registers.write(register_of(self.slots.writeback));
         self.clocks += 1;
-        match event_of(self.slots.writeback) {
-            Some(event) => Some(Handed {
-                event,
-                clock: self.clocks,
-            }),
-            None => None,
-        }
+        let clock = self.clocks;
+        event_of(self.slots.writeback).map(|event| Handed { event, clock })
     }
 
     // Execute, Decode and Fetch, in a clock in which no stop is passed on.
@@ -114,26 +104,23 @@ impl Core {
     /// One cycle by the stage rules.
     pub(crate) fn tick<S: Store, M: Memory>(&mut self, store: &S, memory: &mut M) -> Tick
         requires { self.old.clocks < 2 ^ 32 - 1 }
-        ensures clock { record { machine = machine self.new (M.Store.word_at memory.new); handed = result.handed; signals = result.signals } ≡ clocked (setting (S.Store.word_at store.now) (S.Store.tag_at store.now) (M.Store.tag_at memory.old) (M.Memory.writable_at memory.old)) (machine self.old (M.Store.word_at memory.old)) }
-        ensures tags { M.Store.tag_at memory.new ≡ M.Store.tag_at memory.old }
-        ensures writability { M.Memory.writable_at memory.new ≡ M.Memory.writable_at memory.old }
+        ensures clock { record { machine = machine self.new (M.Store.word_at memory.new); handed = result.handed; signals = result.signals } ≡ clocked (setting_of S.Store M.Store M.Memory.own store.now memory.old) (machine self.old (M.Store.word_at memory.old)) }
+        ensures rest { OnlyWordsChange M.Store M.Memory.own memory.old memory.new }
     {
         let handed = self.retire();
         if holds_stop(self.slots.writeback) {
-            self.slots = Slots::empty();
+            self.slots = Slots::default();
             self.stopped = true;
-            let signals = Signals::none();
+            let signals = Signals::default();
             return Tick { handed, signals };
         }
         let writeback = memory_stage(self.slots.memory, memory);
         if holds_stop(writeback) {
             self.slots = Slots {
-                decode: None,
-                execute: None,
-                memory: None,
                 writeback,
+                ..Slots::default()
             };
-            let signals = Signals::none();
+            let signals = Signals::default();
             return Tick { handed, signals };
         }
         let signals = self.advance(store, writeback);

@@ -1,6 +1,6 @@
 // Decode: says what a fetched word is, reads the source registers, and waits for a load that one of them depends on.
 ghost use Rattle.std.specs.Prelude.{◌≡◌};
-ghost use Rattle.pipeline.specs.DecodeStage.{understood, word_in, reading, held_in, awaited, sourced, stalls, passing, to_execute};
+ghost use Rattle.pipeline.specs.DecodeStage.{understood, reading, held_in, awaited, sourced, stalls, passing, to_execute};
 
 use crate::slots::{Change, DecodeSlot, ExecuteSlot, Issue};
 use isa::decode::decode;
@@ -14,22 +14,8 @@ use stepper::registers::Registers;
 fn understand(fetched: Result<u32, Fault>) -> Result<Instruction, Stop>
     ensures { result ≡ understood fetched }
 {
-    match fetched {
-        Ok(word) => match decode(word) {
-            Some(instruction) => Ok(instruction),
-            None => Err(Stop::Outside),
-        },
-        Err(fault) => Err(Stop::Fetch(fault)),
-    }
-}
-
-fn word_in(fetched: Result<u32, Fault>) -> u32
-    ensures { result ≡ word_in fetched }
-{
-    match fetched {
-        Ok(word) => word,
-        Err(_) => 0,
-    }
+    let word = fetched.map_err(Stop::Fetch)?;
+    decode(word).ok_or(Stop::Outside)
 }
 
 // The two source registers are read.
@@ -40,66 +26,42 @@ fn read_sources(
 ) -> Result<Issue, Stop>
     ensures { result ≡ reading registers.now.values address instruction }
 {
-    match &instruction {
-        Ok(instruction) => Ok(Issue {
-            instruction: *instruction,
-            first: registers.read(instruction.first_source(), address),
-            second: registers.read(instruction.second_source(), address),
-        }),
-        Err(stop) => Err(*stop),
-    }
+    instruction.map(|instruction| Issue {
+        instruction,
+        first: registers.read(instruction.first_source(), address),
+        second: registers.read(instruction.second_source(), address),
+    })
 }
 
 // The register that a load in Execute brings, whatever its condition.
 fn awaited(slot: Option<ExecuteSlot>) -> Option<Register>
     ensures { result ≡ awaited slot }
 {
-    let Some(content) = &slot else {
-        return None;
-    };
-    match &content.issue {
-        Ok(issue) => match &issue.instruction.action {
-            Action::Load(transfer) => Some(transfer.rd),
-            _ => None,
-        },
-        Err(_) => None,
+    match slot?.issue.ok()?.instruction.action {
+        Action::Load(transfer) => Some(transfer.rd),
+        _ => None,
     }
 }
 
 fn sourced(register: Option<Register>, instruction: Instruction) -> bool
     ensures { result ≡ sourced register instruction.action }
 {
-    match register {
-        Some(register) => {
-            let number = register.number();
-            number == instruction.first_source().number()
-                || number == instruction.second_source().number()
-        }
-        None => false,
-    }
+    register.is_some_and(|register| instruction.reads(register))
 }
 
 /// What the Decode slot holds, if it is full.
 pub fn held_in(slot: Option<DecodeSlot>) -> Option<Result<Instruction, Stop>>
     ensures { result ≡ held_in slot }
 {
-    match &slot {
-        Some(content) => Some(understand(content.fetched)),
-        None => None,
-    }
+    slot.map(|content| understand(content.fetched))
 }
 
 /// Whether Decode has to wait for a load in Execute.
 pub fn stalls(execute: Option<ExecuteSlot>, held: Option<Result<Instruction, Stop>>) -> bool
     ensures { result ≡ stalls (awaited execute) held }
 {
-    let Some(found) = &held else {
-        return false;
-    };
-    match found {
-        Ok(instruction) => sourced(awaited(execute), *instruction),
-        Err(_) => false,
-    }
+    let waits = |instruction| sourced(awaited(execute), instruction);
+    held.is_some_and(|found| found.is_ok_and(waits))
 }
 
 /// What passes from Decode to Execute, if nothing holds it up.
@@ -110,17 +72,14 @@ pub fn pass(
 ) -> Change<ExecuteSlot>
     ensures { result ≡ passing registers.now.values slot held }
 {
-    let Some(content) = &slot else {
-        return Change::Empty;
-    };
-    let Some(instruction) = &held else {
-        return Change::Empty;
-    };
-    Change::Fill(ExecuteSlot {
-        address: content.address,
-        word: word_in(content.fetched),
-        issue: read_sources(registers, content.address, *instruction),
-    })
+    match (slot, held) {
+        (Some(content), Some(instruction)) => Change::Fill(ExecuteSlot {
+            address: content.address,
+            word: content.fetched.unwrap_or(0),
+            issue: read_sources(registers, content.address, instruction),
+        }),
+        _ => Change::Empty,
+    }
 }
 
 /// What becomes of the Execute slot: a stall or a taken branch leaves it empty.

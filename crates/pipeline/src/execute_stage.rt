@@ -10,7 +10,7 @@ use stepper::event::RegisterWrite;
 use stepper::execute::{Work, execute};
 
 /// What Execute hands on.
-#[derive(Clone, Copy)]
+#[derive(Clone, Copy, PartialEq, Eq, Debug)]
 pub struct Executed {
     pub slot: Option<MemorySlot>,
     pub flags: Flags,
@@ -21,7 +21,7 @@ pub struct Executed {
 }
 
 /// The writes that Execute can take a value from: those of the Memory and the Writeback slot.
-#[derive(Clone, Copy)]
+#[derive(Clone, Copy, PartialEq, Eq, Debug)]
 pub struct Ahead {
     pub memory: Option<RegisterWrite>,
     pub writeback: Option<RegisterWrite>,
@@ -32,16 +32,13 @@ pub struct Ahead {
 fn result_of(work: Work) -> Option<RegisterWrite>
     ensures { result ≡ result_of work }
 {
-    match &work {
-        Work::Write(write) => Some(RegisterWrite {
-            register: write.register,
-            value: write.value,
-        }),
-        Work::Load { register, address } => Some(RegisterWrite {
-            register: *register,
-            value: *address,
-        }),
-        Work::Compare | Work::Store(_) | Work::Branch { target: _ } => None,
+    match work {
+        Work::Write(write) => Some(write),
+        Work::Load {
+            register,
+            address: value,
+        } => Some(RegisterWrite { register, value }),
+        Work::Compare | Work::Store(_) | Work::Branch { .. } => None,
     }
 }
 
@@ -49,22 +46,16 @@ fn result_of(work: Work) -> Option<RegisterWrite>
 pub fn memory_write(slot: Option<MemorySlot>) -> Option<RegisterWrite>
     ensures { result ≡ memory_write slot }
 {
-    match &slot {
-        Some(content) => match &content.pending {
-            Pending::Done(work) => result_of(*work),
-            Pending::Skipped | Pending::Stopped(_) => None,
-        },
-        None => None,
+    match slot?.pending {
+        Pending::Done(work) => result_of(work),
+        Pending::Skipped | Pending::Stopped(_) => None,
     }
 }
 
 fn names(write: Option<RegisterWrite>, register: Register) -> bool
     ensures { result ≡ names write register }
 {
-    match &write {
-        Some(write) => write.register.number() == register.number(),
-        None => false,
-    }
+    write.is_some_and(|write| write.register == register)
 }
 
 impl Ahead {
@@ -93,8 +84,8 @@ impl Ahead {
 fn taking(write: Option<RegisterWrite>, register: Register, value: u32) -> u32
     ensures { result ≡ taking write register value }
 {
-    match &write {
-        Some(write) if write.register.number() == register.number() => write.value,
+    match write {
+        Some(write) if write.register == register => write.value,
         _ => value,
     }
 }
@@ -103,28 +94,25 @@ fn taking(write: Option<RegisterWrite>, register: Register, value: u32) -> u32
 fn perform(flags: Flags, address: u32, word: u32, issue: Issue) -> MemorySlot
     ensures { result ≡ performed flags address word issue }
 {
-    if !issue.instruction.condition.holds(flags) {
-        return MemorySlot {
-            address,
-            word,
-            flags,
-            pending: Pending::Skipped,
-        };
-    }
-    let (work, flags) = execute(issue.instruction.action, issue.first, issue.second, flags);
+    let (pending, flags) = if issue.instruction.condition.holds(flags) {
+        let (work, flags) = execute(issue.instruction.action, issue.first, issue.second, flags);
+        (Pending::Done(work), flags)
+    } else {
+        (Pending::Skipped, flags)
+    };
     MemorySlot {
         address,
         word,
         flags,
-        pending: Pending::Done(work),
+        pending,
     }
 }
 
 fn target_of(pending: Pending) -> Option<u32>
     ensures { result ≡ taken_by pending }
 {
-    match &pending {
-        Pending::Done(Work::Branch { target }) => Some(*target),
+    match pending {
+        Pending::Done(Work::Branch { target }) => Some(target),
         _ => None,
     }
 }
@@ -162,7 +150,7 @@ fn issue_on(ahead: Ahead, flags: Flags, address: u32, word: u32, issue: Issue) -
 pub fn execute_stage(ahead: Ahead, flags: Flags, slot: Option<ExecuteSlot>) -> Executed
     ensures { result ≡ executed ahead.memory ahead.writeback flags slot }
 {
-    let Some(content) = &slot else {
+    let Some(content) = slot else {
         return Executed {
             slot: None,
             flags,
@@ -171,17 +159,19 @@ pub fn execute_stage(ahead: Ahead, flags: Flags, slot: Option<ExecuteSlot>) -> E
             second: Forwarding::Register,
         };
     };
-    let address = content.address;
-    let word = content.word;
-    match &content.issue {
-        Ok(issue) => issue_on(ahead, flags, address, word, *issue),
+    let ExecuteSlot {
+        address,
+        word,
+        issue,
+    } = content;
+    match issue {
+        Ok(issue) => issue_on(ahead, flags, address, word, issue),
         Err(stop) => {
-            let pending = Pending::Stopped(*stop);
             let slot = MemorySlot {
                 address,
                 word,
                 flags,
-                pending,
+                pending: Pending::Stopped(stop),
             };
             hand_on(slot, Forwarding::Register, Forwarding::Register)
         }

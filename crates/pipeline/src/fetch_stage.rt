@@ -1,16 +1,14 @@
 // Fetch: which word comes next, if any.
 ghost use Rattle.std.specs.Prelude.{◌≡◌};
-ghost use Rattle.isa.specs.Roles.{is_15};
 ghost use Rattle.pipeline.specs.FetchStage.{in_decode, in_execute, is_write_15, value_for_15, is_pending, onward, slot_at, to_decode};
 
 use crate::slots::{Change, DecodeSlot, ExecuteSlot};
 use isa::instruction::Instruction;
-use isa::register::Register;
 use memory::store::Store;
 use stepper::event::{RegisterWrite, Stop};
 
 /// What decides where Fetch goes on.
-#[derive(Clone, Copy)]
+#[derive(Clone, Copy, PartialEq, Eq, Debug)]
 pub struct Course {
     /// The target of a taken branch.
     pub taken: Option<u32>,
@@ -21,56 +19,33 @@ pub struct Course {
     pub pending: bool,
 }
 
-fn is_15(register: Option<Register>) -> bool
-    ensures { result ≡ is_15 register }
-{
-    match register {
-        Some(register) => register.number() == 15,
-        None => false,
-    }
-}
-
 fn in_decode(held: Option<Result<Instruction, Stop>>) -> bool
     ensures { result ≡ in_decode held }
 {
-    let Some(found) = &held else {
-        return false;
-    };
-    match found {
-        Ok(instruction) => is_15(instruction.destination()),
-        Err(_) => false,
-    }
+    held.is_some_and(|found| found.is_ok_and(Instruction::writes_15))
 }
 
 fn in_execute(slot: Option<ExecuteSlot>) -> bool
     ensures { result ≡ in_execute slot }
 {
-    let Some(content) = &slot else {
-        return false;
-    };
-    match &content.issue {
-        Ok(issue) => is_15(issue.instruction.destination()),
-        Err(_) => false,
-    }
+    slot.is_some_and(|content| content
+        .issue
+        .is_ok_and(|issue| issue.instruction.writes_15()))
 }
 
 /// The value that a write gives to register 15, if it is to that.
 pub fn value_for_15(write: Option<RegisterWrite>) -> Option<u32>
     ensures { result ≡ value_for_15 write }
 {
-    match &write {
-        Some(write) if write.register.number() == 15 => Some(write.value),
-        _ => None,
-    }
+    write
+        .filter(|write| write.register.number() == 15)
+        .map(|write| write.value)
 }
 
 fn is_write_15(write: Option<RegisterWrite>) -> bool
     ensures { result ≡ is_write_15 write }
 {
-    match &write {
-        Some(write) => write.register.number() == 15,
-        None => false,
-    }
+    write.is_some_and(|write| write.register.number() == 15)
 }
 
 /// Whether a write of register 15 is under way: in Decode or Execute whatever its condition, in Memory if it is done.
@@ -89,16 +64,10 @@ impl Course {
     pub fn onward(self, fetch: u32) -> u32
         ensures { result ≡ onward self.taken self.back self.stall self.pending fetch }
     {
-        if let Some(target) = self.taken {
-            return target;
-        }
-        if let Some(value) = self.back {
-            return value;
-        }
-        if self.stall || self.pending {
-            fetch
-        } else {
-            fetch.wrapping_add(4)
+        match self.taken.or(self.back) {
+            Some(address) => address,
+            None if self.stall || self.pending => fetch,
+            None => fetch.wrapping_add(4),
         }
     }
 

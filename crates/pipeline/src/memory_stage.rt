@@ -1,5 +1,6 @@
 // Memory: makes the access of a done load or store, and finishes the event.
 ghost use Rattle.std.specs.Prelude.{◌≡◌};
+ghost use Rattle.memory.specs.Keeping.{OnlyWordsChange};
 ghost use Rattle.pipeline.specs.MemoryStage.{completed, words_of, to_writeback, words_left};
 
 use crate::slots::{MemorySlot, Pending, WritebackSlot};
@@ -11,16 +12,12 @@ use stepper::event::{Event, Kind, Stop};
 fn complete<M: Memory>(pending: Pending, memory: &mut M) -> Result<(Kind, Effect), Stop>
     ensures effect { result ≡ completed (M.Store.word_at memory.old) (M.Store.tag_at memory.old) (M.Memory.writable_at memory.old) pending }
     ensures words { M.Store.word_at memory.new ≡ words_of (M.Store.word_at memory.old) (M.Store.tag_at memory.old) (M.Memory.writable_at memory.old) pending }
-    ensures tags { M.Store.tag_at memory.new ≡ M.Store.tag_at memory.old }
-    ensures writability { M.Memory.writable_at memory.new ≡ M.Memory.writable_at memory.old }
+    ensures rest { OnlyWordsChange M.Store M.Memory.own memory.old memory.new }
 {
-    match &pending {
-        Pending::Done(work) => {
-            let effect = access(*work, memory)?;
-            Ok((Kind::Done, effect))
-        }
-        Pending::Skipped => Ok((Kind::Skipped, Effect::none())),
-        Pending::Stopped(stop) => Err(*stop),
+    match pending {
+        Pending::Done(work) => Ok((Kind::Done, access(work, memory)?)),
+        Pending::Skipped => Ok((Kind::Skipped, Effect::default())),
+        Pending::Stopped(stop) => Err(stop),
     }
 }
 
@@ -28,16 +25,11 @@ fn complete<M: Memory>(pending: Pending, memory: &mut M) -> Result<(Kind, Effect
 pub fn memory_stage<M: Memory>(slot: Option<MemorySlot>, memory: &mut M) -> Option<WritebackSlot>
     ensures slot { result ≡ to_writeback (M.Store.word_at memory.old) (M.Store.tag_at memory.old) (M.Memory.writable_at memory.old) slot }
     ensures words { M.Store.word_at memory.new ≡ words_left (M.Store.word_at memory.old) (M.Store.tag_at memory.old) (M.Memory.writable_at memory.old) slot }
-    ensures tags { M.Store.tag_at memory.new ≡ M.Store.tag_at memory.old }
-    ensures writability { M.Memory.writable_at memory.new ≡ M.Memory.writable_at memory.old }
+    ensures rest { OnlyWordsChange M.Store M.Memory.own memory.old memory.new }
 {
-    let Some(content) = &slot else {
-        return None;
-    };
-    let (kind, effect) = match complete(content.pending, memory) {
-        Ok(ended) => ended,
-        Err(stop) => (Kind::Stopped(stop), Effect::none()),
-    };
+    let content = slot?;
+    let stopped = |stop| (Kind::Stopped(stop), Effect::default());
+    let (kind, effect) = complete(content.pending, memory).unwrap_or_else(stopped);
     let event = Event {
         address: content.address,
         word: content.word,

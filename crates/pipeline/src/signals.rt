@@ -1,16 +1,17 @@
 // What a clock shows of its stages.
 ghost use Rattle.std.specs.Prelude.{◌≡◌};
-ghost use Rattle.pipeline.specs.Signals.{forwarding_number, quiet};
+ghost use Rattle.pipeline.specs.Signals.{forwarding_number};
 
 /// Where Execute takes a source value from.
-#[derive(Clone, Copy)]
+#[derive(Clone, Copy, PartialEq, Eq, Default, Debug)]
 pub enum Forwarding {
     /// What Decode read.
-    Register,
+    #[default]
+    Register = 0,
     /// The value that Writeback writes in this clock.
-    Writeback,
+    Writeback = 1,
     /// The value in the Memory slot.
-    Memory,
+    Memory = 2,
 }
 
 impl Forwarding {
@@ -18,16 +19,12 @@ impl Forwarding {
     pub fn number(self) -> u8
         ensures { result ≡ forwarding_number self }
     {
-        match self {
-            Forwarding::Register => 0,
-            Forwarding::Writeback => 1,
-            Forwarding::Memory => 2,
-        }
+        self as u8
     }
 }
 
-/// The six signals of a clock.
-#[derive(Clone, Copy)]
+/// The six signals of a clock. In the default, nothing is to be reported.
+#[derive(Clone, Copy, PartialEq, Eq, Default, Debug)]
 pub struct Signals {
     /// Decode waits for a load.
     pub stall: bool,
@@ -38,20 +35,4 @@ pub struct Signals {
     pub pc_written: bool,
     pub first: Forwarding,
     pub second: Forwarding,
-}
-
-impl Signals {
-    /// Nothing to report.
-    pub fn none() -> Signals
-        ensures { result ≡ quiet }
-    {
-        Signals {
-            stall: false,
-            write_pending: false,
-            branch_taken: false,
-            pc_written: false,
-            first: Forwarding::Register,
-            second: Forwarding::Register,
-        }
-    }
 }

@@ -10,14 +10,14 @@ use stepper::event::{Event, Stop};
 use stepper::execute::Work;
 
 /// A fetched word: where, and what the program store answered there.
-#[derive(Clone, Copy)]
+#[derive(Clone, Copy, PartialEq, Eq, Debug)]
 pub struct DecodeSlot {
     pub address: u32,
     pub fetched: Result<u32, Fault>,
 }
 
 /// An instruction with what its two source registers held when it was decoded.
-#[derive(Clone, Copy)]
+#[derive(Clone, Copy, PartialEq, Eq, Debug)]
 pub struct Issue {
     pub instruction: Instruction,
     pub first: u32,
@@ -25,7 +25,7 @@ pub struct Issue {
 }
 
 /// A decoded word, or the stop that it came to. The word is 0 if none could be read.
-#[derive(Clone, Copy)]
+#[derive(Clone, Copy, PartialEq, Eq, Debug)]
 pub struct ExecuteSlot {
     pub address: u32,
     pub word: u32,
@@ -33,7 +33,7 @@ pub struct ExecuteSlot {
 }
 
 /// What is left of an instruction behind Execute.
-#[derive(Clone, Copy)]
+#[derive(Clone, Copy, PartialEq, Eq, Debug)]
 pub enum Pending {
     Done(Work),
     Skipped,
@@ -41,7 +41,7 @@ pub enum Pending {
 }
 
 /// An executed instruction, with the flags after it.
-#[derive(Clone, Copy)]
+#[derive(Clone, Copy, PartialEq, Eq, Debug)]
 pub struct MemorySlot {
     pub address: u32,
     pub word: u32,
@@ -50,13 +50,13 @@ pub struct MemorySlot {
 }
 
 /// A finished instruction, whose event is still to be handed out.
-#[derive(Clone, Copy)]
+#[derive(Clone, Copy, PartialEq, Eq, Debug)]
 pub struct WritebackSlot {
     pub event: Event,
 }
 
 /// What a clock does to a slot, of whatever kind.
-#[derive(Clone, Copy)]
+#[derive(Clone, Copy, PartialEq, Eq, Debug)]
 pub enum Change<T> {
     Keep,
     Empty,

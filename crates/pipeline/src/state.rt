@@ -1,13 +1,13 @@
 // The core: registers, flags, fetch address, four slots, and how many clocks it has made.
 ghost use Rattle.std.specs.Prelude.{◌≡◌};
-ghost use Rattle.pipeline.specs.Clock.{empty_slots, reset};
+ghost use Rattle.pipeline.specs.Clock.{reset};
 
 use crate::slots::{DecodeSlot, ExecuteSlot, MemorySlot, WritebackSlot};
 use isa::flags::Flags;
 use stepper::registers::Registers;
 
-/// The four slots.
-#[derive(Clone, Copy)]
+/// The four slots, by default all empty.
+#[derive(Clone, Copy, PartialEq, Eq, Default, Debug)]
 pub struct Slots {
     pub decode: Option<DecodeSlot>,
     pub execute: Option<ExecuteSlot>,
@@ -15,7 +15,7 @@ pub struct Slots {
     pub writeback: Option<WritebackSlot>,
 }
 
-#[derive(Clone, Copy)]
+#[derive(Clone, Copy, PartialEq, Eq, Debug)]
 pub struct Core {
     pub(crate) registers: Registers,
     pub(crate) flags: Flags,
@@ -26,19 +26,6 @@ pub struct Core {
     pub(crate) stopped: bool,
 }
 
-impl Slots {
-    pub fn empty() -> Slots
-        ensures { result ≡ empty_slots }
-    {
-        Slots {
-            decode: None,
-            execute: None,
-            memory: None,
-            writeback: None,
-        }
-    }
-}
-
 impl Core {
     /// A core after reset: everything empty and 0.
     pub fn new() -> Core
@@ -46,14 +33,9 @@ impl Core {
     {
         Core {
             registers: Registers::new(),
-            flags: Flags {
-                n: false,
-                z: false,
-                c: false,
-                v: false,
-            },
+            flags: Flags::default(),
             fetch: 0,
-            slots: Slots::empty(),
+            slots: Slots::default(),
             clocks: 0,
             stopped: false,
         }

@@ -9,28 +9,19 @@ use stepper::event::{Event, Kind, RegisterWrite};
 pub fn event_of(slot: Option<WritebackSlot>) -> Option<Event>
     ensures { result ≡ handed_out slot }
 {
-    match slot {
-        Some(content) => Some(content.event),
-        None => None,
-    }
+    slot.map(|content| content.event)
 }
 
 /// The register that the slot writes, if it writes one.
 pub fn register_of(slot: Option<WritebackSlot>) -> Option<RegisterWrite>
     ensures { result ≡ register_of slot }
 {
-    match &slot {
-        Some(content) => content.event.register,
-        None => None,
-    }
+    slot?.event.register
 }
 
 /// Whether the slot holds a stop.
 pub fn holds_stop(slot: Option<WritebackSlot>) -> bool
     ensures { result ≡ hands_out_stop slot }
 {
-    match &slot {
-        Some(content) => matches!(content.event.kind, Kind::Stopped(_)),
-        None => false,
-    }
+    slot.is_some_and(|content| matches!(content.event.kind, Kind::Stopped(_)))
 }

@@ -1,8 +1,8 @@
 -- Calls that are performed for a client, one by one and as a list. Assumes nothing.
-use Rattle.std.proofs.Common.{◌≡◌, ℕ, ◌+◌, ◌<◌, Bool, List, [], ◌∷◌, ◌++◌, length, get_or, take, sym, refl, ap, ◌∙◌, subst, append_assoc, append-nil}
+use Rattle.std.proofs.Common.{◌≡◌, ℕ, ◌+◌, ◌<◌, List, [], ◌∷◌, ◌++◌, length, get_or, take, sym, refl, ap, ◌∙◌, subst, append_assoc, append-nil}
 use Rattle.std.proofs.lemmas.List.{flat_map_more, map_push, take_more}
-use Rattle.memory.specs.Meaning.{Words, Tags}
-use Rattle.stepper.specs.Step.{Setting, setting}
+use Rattle.memory.specs.Meaning.{Words}
+use Rattle.stepper.specs.Step.{Setting}
 use Rattle.pipeline.specs.Clock.{Machine, machine, reset}
 use Rattle.pipeline.specs.declared.clock.Handed.{Handed}
 use Rattle.refinement.specs.CallLists.{Made, Promised, handed_in, Leads, nothing_made, one_more}
@@ -25,10 +25,6 @@ module _ (s : Setting) (before after : Machine) where
 
 pub not_begun : (s : Setting) (before : Machine) → GivenUp s before before
 not_begun s before = record { made = []; leads = nothing_made }
-
--- one and the same setting, by what is known of its tags and its leave to write
-pub at_the_start : (P : Setting → Type 0) (program : Words) (tags t t' : Tags) (w w' : ℕ → Bool) → t ≡ t' → w ≡ w' → P (setting program tags t w) → P (setting program tags t' w')
-at_the_start P program tags t t' w w' p q = subst P (λ i. setting program tags (p i) (q i))
 
 leads_through : (s : Setting) (start between : Machine) (first : List Made) → Leads s start first between → {made : List Made} {after : Machine} → Leads s between made after → Leads s start (first ++ made) after
 leads_through s start between first p nothing_made = subst (λ l. Leads s start l between) (sym (append-nil first)) p
@@ -56,11 +52,11 @@ module _ (s : Setting) (start : Machine) where
   pub given_up_here : (calls : List Call) (answers : List Answer) (there : List Handed) (after : Machine) → AllPerformed s start calls answers there after → GivenUp s start after
   given_up_here calls answers there after p = record { made = p.made; leads = p.leads }
 
--- one more of a list of calls, at a turn whose memory still has the tags and the leave to write of the start
-pub one_turn : (program : Words) (tags t t' : Tags) (w w' : ℕ → Bool) (start : Machine) (calls : List Call) (i : ℕ) (call : Call) (answers : List Answer) (there there' : List Handed) (answer : Answer) (before after : Machine) → i < length calls → t ≡ t' → w ≡ w' → AllPerformed (setting program tags t' w') start (take i calls) answers there before → Performed (setting program tags t w) before (get_or calls i call) answer there there' after → AllPerformed (setting program tags t' w') start (take (i + 1) calls) (answers ++ answer ∷ []) there' after
-one_turn program tags t t' w w' start calls i call answers there there' answer before after h p q sofar one =
-    subst (λ l. AllPerformed (setting program tags t' w') start l (answers ++ answer ∷ []) there' after) (sym (take_more calls i call h))
-    (one_performed (setting program tags t' w') start (take i calls) answers there there' (get_or calls i call) answer before after sofar (at_the_start (λ s. Performed s before (get_or calls i call) answer there there' after) program tags t t' w w' p q one))
+-- one more of a list of calls, at a turn where the setting is that of the start
+pub one_turn : (s t : Setting) (start : Machine) (calls : List Call) (i : ℕ) (call : Call) (answers : List Answer) (there there' : List Handed) (answer : Answer) (before after : Machine) → i < length calls → s ≡ t → AllPerformed t start (take i calls) answers there before → Performed s before (get_or calls i call) answer there there' after → AllPerformed t start (take (i + 1) calls) (answers ++ answer ∷ []) there' after
+one_turn s t start calls i call answers there there' answer before after h same sofar one =
+    subst (λ l. AllPerformed t start l (answers ++ answer ∷ []) there' after) (sym (take_more calls i call h))
+    (one_performed t start (take i calls) answers there there' (get_or calls i call) answer before after sofar (subst (λ u. Performed u before (get_or calls i call) answer there there' after) same one))
 
 pub all_late : (s : Setting) (words : Words) (calls : List Call) (answers : List Answer) (there : List Handed) (after : Machine) → AllPerformed s (machine reset words) calls answers there after → RunsLateBeside s words after there
 all_late s words calls answers there after p = subst (RunsLateBeside s words after) p.handed_out (calls_run_late s words p.made after p.leads)

@@ -1,27 +1,14 @@
 -- The clock law: in which clock the core hands out each event of the stepper, from those events alone.
 use Rattle.std.specs.Prelude.{ℕ, ◌+◌, ◌-◌, ◌*◌, Bool, true, false, cond, ◌&&◌, ◌||◌, List, [], ◌∷◌, length, take, Some, None, count_by, Option, ◌==◌}
-use Rattle.isa.specs.Decoding.{decoded}
 use Rattle.isa.specs.Roles.{destination_of, is_15, is_source}
 use Rattle.isa.specs.declared.instruction.Action.{Action}
 use Rattle.isa.specs.declared.instruction.Action.TheVariants.{Data, Load, Store, Branch}
 use Rattle.isa.specs.declared.instruction.Instruction.{Instruction}
 use Rattle.isa.specs.declared.register.Register.{Register}
+pub use Rattle.stepper.specs.EventWords.{was_read, instruction_of}
 use Rattle.stepper.specs.declared.event.Event.{Event}
 use Rattle.stepper.specs.declared.event.Kind.{Kind}
 use Rattle.stepper.specs.declared.event.Kind.TheVariants.{Done, Skipped, Stopped}
-use Rattle.stepper.specs.declared.event.Stop.TheVariants.{Fetch, Outside, Access}
-
--- a word could be read: every event but a stop at fetching
-abbrev pub was_read : Kind → Bool
-was_read Done = true
-was_read Skipped = true
-was_read (Stopped (Fetch fault)) = false
-was_read (Stopped Outside) = true
-was_read (Stopped (Access fault)) = true
-
--- the instruction of an event, if its word is one
-abbrev pub instruction_of : Event → Option Instruction
-instruction_of e = cond (was_read e.kind) (decoded e.word) None
 
 -- whether the event's word is an instruction of that sort
 abbrev pub which : (Action → Bool) → Option Instruction → Bool

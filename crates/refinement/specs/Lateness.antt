@@ -1,30 +1,22 @@
 -- The core is the stepper running late: by how much follows from the stepper's events alone.
-use Rattle.std.specs.Prelude.{◌≡◌, ℕ, zero, suc, ◌+◌, ◌-◌, ◌≤◌, cond, List, [], ◌++◌, map, length, is_some, None, Option, slice_index_or}
-use Rattle.std.specs.Option.{option_to_list}
+use Rattle.std.specs.Prelude.{◌≡◌, ℕ, ◌+◌, ◌-◌, ◌≤◌, List, map, length, is_some, slice_index_or}
 use Rattle.memory.specs.Meaning.{Words}
 use Rattle.stepper.specs.Alike.{SameMeanings}
 use Rattle.stepper.specs.Step.{Setting}
 use Rattle.stepper.specs.Run.{after_steps, first_events}
-use Rattle.pipeline.specs.Clock.{Machine, machine, reset, clocked}
+pub use Rattle.pipeline.specs.Calls.{tick, handed_by}
+use Rattle.pipeline.specs.Calls.{onward, handed_on}
+use Rattle.pipeline.specs.Clock.{Machine, machine, reset}
 use Rattle.pipeline.specs.declared.clock.Handed.{Handed}
 use Rattle.refinement.specs.ClockLaw.{bit, clock_of}
 
-module _ (s : Setting) where
-  -- a clock, unless the core has stopped
-  abbrev pub tick : Machine → Machine
-  tick m = cond m.core.stopped m (clocked s m).machine
+module _ (s : Setting) (words : Words) where
+  -- the machine t clocks after reset, and what was handed out until then
+  abbrev pub after_clocks : ℕ → Machine
+  after_clocks t = onward s (machine reset words) t
 
-  abbrev pub handed_by : Machine → Option Handed
-  handed_by m = cond m.core.stopped None (clocked s m).handed
-
-  -- the machine t clocks after reset, from data words, and what was handed out until then
-  abbrev pub after_clocks : Words → ℕ → Machine
-  after_clocks words zero = machine reset words
-  after_clocks words (suc t) = tick (after_clocks words t)
-
-  abbrev pub handed_out : Words → ℕ → List Handed
-  handed_out words zero = []
-  handed_out words (suc t) = handed_out words t ++ option_to_list (handed_by (after_clocks words t))
+  abbrev pub handed_out : ℕ → List Handed
+  handed_out t = handed_on s (machine reset words) t
 
 -- event number k, counted from 1, was handed out in clock c
 pub record HandedIn (handed : List Handed) (k c : ℕ) : Type 0 where

@@ -1,5 +1,5 @@
 -- A list of calls that is performed for a client: the requests, the answers, and that they are what the calls promise.
-use Rattle.std.specs.Prelude.{◌≡◌, List, ◌++◌, map, length}
+use Rattle.std.specs.Prelude.{◌≡◌, List, ◌++◌, map, length, vec_items, Result, MatchResult}
 use Rattle.std.specs.List.{flat_map}
 use Rattle.stepper.specs.Step.{Setting}
 use Rattle.pipeline.specs.Clock.{Machine}
@@ -7,6 +7,7 @@ use Rattle.pipeline.specs.declared.clock.Handed.{Handed}
 use Rattle.refinement.specs.CallLists.{Made, ClockMade, RunMade, RegisterMade, FlagsMade, SlotsMade, Promised, handed_in, Leads}
 use Rattle.refinement.specs.declared.perform.Answer.{Answer}
 use Rattle.refinement.specs.declared.perform.Answer.TheVariants.{Clock as ClockAnswer, Run as RunAnswer, Register as RegisterAnswer, Flags as FlagsAnswer, Slots as SlotsAnswer}
+use Rattle.refinement.specs.declared.perform.Performance.{Performance}
 use Rattle.refinement.specs.declared.perform.Call.{Call}
 use Rattle.refinement.specs.declared.perform.Call.TheVariants.{Clock, Run, Register, Flags, Slots}
 
@@ -45,3 +46,13 @@ pub record AllPerformed (s : Setting) (start : Machine) (calls : List Call) (ans
 pub record GivenUp (s : Setting) (start after : Machine) : Type 0 where
   pub made : List Made
   pub leads : Leads s start made after
+
+-- a call that was made, or given up for want of memory to keep what it answered
+abbrev pub Tried : {E : Type 0} → Setting → Machine → Call → List Handed → List Handed → Machine → Result Answer E → Type 0
+Tried s before call there there' after result =
+    MatchResult result (λ answer. Performed s before call answer there there' after) (λ _. GivenUp s before after)
+
+-- and a whole list of them
+abbrev pub AllTried : {E : Type 0} → Setting → Machine → List Call → Machine → Result Performance E → Type 0
+AllTried s start calls after result =
+    MatchResult result (λ p. AllPerformed s start calls (vec_items p.answers) (vec_items p.handed) after) (λ _. GivenUp s start after)

@@ -1,9 +1,10 @@
 // Any list of calls on a core from reset, performed one after another.
-ghost use Rattle.std.specs.Prelude.{◌≡◌, length, IfOk, MatchResult};
-ghost use Rattle.stepper.specs.Step.{setting};
+ghost use Rattle.std.specs.Prelude.{◌≡◌, length, IfOk};
+ghost use Rattle.memory.specs.Keeping.{OnlyWordsChange};
+ghost use Rattle.stepper.specs.Memories.{setting_of};
 ghost use Rattle.pipeline.specs.Clock.{machine, reset};
 ghost use Rattle.refinement.specs.Lateness.{RunsLateBeside};
-ghost use Rattle.refinement.specs.Performing.{Performed, AllPerformed, GivenUp};
+ghost use Rattle.refinement.specs.Performing.{Tried, AllTried};
 
 use isa::flags::Flags;
 use memory::store::{Memory, Store};
@@ -14,7 +15,7 @@ use std::alloc::{AllocError, Global};
 use stepper::registers::UnknownRegister;
 
 /// A call to be made.
-#[derive(Clone, Copy)]
+#[derive(Clone, Copy, PartialEq, Eq, Debug)]
 pub enum Call {
     Clock,
     /// Run with a budget, into a list of so many places.
@@ -26,7 +27,7 @@ pub enum Call {
 }
 
 /// What a call answered.
-#[derive(Clone, Copy)]
+#[derive(Clone, Copy, PartialEq, Eq, Debug)]
 pub enum Answer {
     Clock(Result<Tick, Refusal>),
     Run(Result<Ran, Refusal>),
@@ -36,7 +37,7 @@ pub enum Answer {
 }
 
 /// The answers to a list of calls, in its order, and all events that the calls handed out.
-#[derive(Drop)]
+#[derive(Drop, Debug)]
 pub struct Performance {
     pub answers: Vec<Answer>,
     pub handed: Vec<Handed>,
@@ -48,9 +49,8 @@ fn perform_clock<S: Store, M: Memory>(
     memory: &mut M,
     handed: &mut Vec<Handed>,
 ) -> Result<Answer, AllocError>
-    ensures call { MatchResult result (λ answer. Performed (setting (S.Store.word_at store.now) (S.Store.tag_at store.now) (M.Store.tag_at memory.old) (M.Memory.writable_at memory.old)) (machine core.old (M.Store.word_at memory.old)) Call.Clock answer handed.old.items handed.new.items (machine core.new (M.Store.word_at memory.new))) (λ _. GivenUp (setting (S.Store.word_at store.now) (S.Store.tag_at store.now) (M.Store.tag_at memory.old) (M.Memory.writable_at memory.old)) (machine core.old (M.Store.word_at memory.old)) (machine core.new (M.Store.word_at memory.new))) }
-    ensures tags { M.Store.tag_at memory.new ≡ M.Store.tag_at memory.old }
-    ensures writability { M.Memory.writable_at memory.new ≡ M.Memory.writable_at memory.old }
+    ensures call { Tried (setting_of S.Store M.Store M.Memory.own store.now memory.old) (machine core.old (M.Store.word_at memory.old)) Call.Clock handed.old.items handed.new.items (machine core.new (M.Store.word_at memory.new)) result }
+    ensures rest { OnlyWordsChange M.Store M.Memory.own memory.old memory.new }
 {
     let answer = core.clock(store, memory);
     if let Ok(tick) = answer {
@@ -70,9 +70,8 @@ fn run_into<S: Store, M: Memory>(
     list: &mut [Handed],
     handed: &mut Vec<Handed>,
 ) -> Result<Answer, AllocError>
-    ensures call { MatchResult result (λ answer. Performed (setting (S.Store.word_at store.now) (S.Store.tag_at store.now) (M.Store.tag_at memory.old) (M.Memory.writable_at memory.old)) (machine core.old (M.Store.word_at memory.old)) (Call.Run budget (length list.old)) answer handed.old.items handed.new.items (machine core.new (M.Store.word_at memory.new))) (λ _. GivenUp (setting (S.Store.word_at store.now) (S.Store.tag_at store.now) (M.Store.tag_at memory.old) (M.Memory.writable_at memory.old)) (machine core.old (M.Store.word_at memory.old)) (machine core.new (M.Store.word_at memory.new))) }
-    ensures tags { M.Store.tag_at memory.new ≡ M.Store.tag_at memory.old }
-    ensures writability { M.Memory.writable_at memory.new ≡ M.Memory.writable_at memory.old }
+    ensures call { Tried (setting_of S.Store M.Store M.Memory.own store.now memory.old) (machine core.old (M.Store.word_at memory.old)) (Call.Run budget (length list.old)) handed.old.items handed.new.items (machine core.new (M.Store.word_at memory.new)) result }
+    ensures rest { OnlyWordsChange M.Store M.Memory.own memory.old memory.new }
 {
     let answer = core.run(store, memory, budget, list);
     if let Ok(ran) = answer {
@@ -90,11 +89,10 @@ fn perform_run<S: Store, M: Memory>(
     places: u16,
     handed: &mut Vec<Handed>,
 ) -> Result<Answer, AllocError>
-    ensures call { MatchResult result (λ answer. Performed (setting (S.Store.word_at store.now) (S.Store.tag_at store.now) (M.Store.tag_at memory.old) (M.Memory.writable_at memory.old)) (machine core.old (M.Store.word_at memory.old)) (Call.Run budget places) answer handed.old.items handed.new.items (machine core.new (M.Store.word_at memory.new))) (λ _. GivenUp (setting (S.Store.word_at store.now) (S.Store.tag_at store.now) (M.Store.tag_at memory.old) (M.Memory.writable_at memory.old)) (machine core.old (M.Store.word_at memory.old)) (machine core.new (M.Store.word_at memory.new))) }
-    ensures tags { M.Store.tag_at memory.new ≡ M.Store.tag_at memory.old }
-    ensures writability { M.Memory.writable_at memory.new ≡ M.Memory.writable_at memory.old }
+    ensures call { Tried (setting_of S.Store M.Store M.Memory.own store.now memory.old) (machine core.old (M.Store.word_at memory.old)) (Call.Run budget places) handed.old.items handed.new.items (machine core.new (M.Store.word_at memory.new)) result }
+    ensures rest { OnlyWordsChange M.Store M.Memory.own memory.old memory.new }
 {
-    let mut list = vec![in heap; Handed::blank(); places as usize]?;
+    let mut list = vec![in heap; Handed::blank(); usize::from(places)]?;
     run_into(core, store, memory, budget, list.as_mut_slice(), handed)
 }
 
@@ -107,9 +105,8 @@ fn perform_one<S: Store, M: Memory>(
     call: Call,
     handed: &mut Vec<Handed>,
 ) -> Result<Answer, AllocError>
-    ensures call { MatchResult result (λ answer. Performed (setting (S.Store.word_at store.now) (S.Store.tag_at store.now) (M.Store.tag_at memory.old) (M.Memory.writable_at memory.old)) (machine core.old (M.Store.word_at memory.old)) call answer handed.old.items handed.new.items (machine core.new (M.Store.word_at memory.new))) (λ _. GivenUp (setting (S.Store.word_at store.now) (S.Store.tag_at store.now) (M.Store.tag_at memory.old) (M.Memory.writable_at memory.old)) (machine core.old (M.Store.word_at memory.old)) (machine core.new (M.Store.word_at memory.new))) }
-    ensures tags { M.Store.tag_at memory.new ≡ M.Store.tag_at memory.old }
-    ensures writability { M.Memory.writable_at memory.new ≡ M.Memory.writable_at memory.old }
+    ensures call { Tried (setting_of S.Store M.Store M.Memory.own store.now memory.old) (machine core.old (M.Store.word_at memory.old)) call handed.old.items handed.new.items (machine core.new (M.Store.word_at memory.new)) result }
+    ensures rest { OnlyWordsChange M.Store M.Memory.own memory.old memory.new }
 {
     match call {
         Call::Clock => perform_clock(core, store, memory, handed),
@@ -131,10 +128,9 @@ fn perform_all<S: Store, M: Memory>(
     calls: &[Call],
 ) -> Result<Performance, AllocError>
     requires { core.old ≡ reset }
-    ensures late { IfOk result (λ p. RunsLateBeside (setting (S.Store.word_at store.now) (S.Store.tag_at store.now) (M.Store.tag_at memory.old) (M.Memory.writable_at memory.old)) (M.Store.word_at memory.old) (machine core.new (M.Store.word_at memory.new)) p.handed.items) }
-    ensures calls { MatchResult result (λ p. AllPerformed (setting (S.Store.word_at store.now) (S.Store.tag_at store.now) (M.Store.tag_at memory.old) (M.Memory.writable_at memory.old)) (machine reset (M.Store.word_at memory.old)) calls.now p.answers.items p.handed.items (machine core.new (M.Store.word_at memory.new))) (λ _. GivenUp (setting (S.Store.word_at store.now) (S.Store.tag_at store.now) (M.Store.tag_at memory.old) (M.Memory.writable_at memory.old)) (machine reset (M.Store.word_at memory.old)) (machine core.new (M.Store.word_at memory.new))) }
-    ensures tags { M.Store.tag_at memory.new ≡ M.Store.tag_at memory.old }
-    ensures writability { M.Memory.writable_at memory.new ≡ M.Memory.writable_at memory.old }
+    ensures late { IfOk result (λ p. RunsLateBeside (setting_of S.Store M.Store M.Memory.own store.now memory.old) (M.Store.word_at memory.old) (machine core.new (M.Store.word_at memory.new)) p.handed.items) }
+    ensures calls { AllTried (setting_of S.Store M.Store M.Memory.own store.now memory.old) (machine reset (M.Store.word_at memory.old)) calls.now (machine core.new (M.Store.word_at memory.new)) result }
+    ensures rest { OnlyWordsChange M.Store M.Memory.own memory.old memory.new }
 {
     let mut answers = Vec::new(heap);
     let mut handed = Vec::new(heap);
@@ -157,10 +153,9 @@ pub fn perform<S: Store, M: Memory>(
     memory: &mut M,
     calls: &[Call],
 ) -> Result<Performance, AllocError>
-    ensures late { IfOk result (λ p. RunsLateBeside (setting (S.Store.word_at store.now) (S.Store.tag_at store.now) (M.Store.tag_at memory.old) (M.Memory.writable_at memory.old)) (M.Store.word_at memory.old) (machine core.new (M.Store.word_at memory.new)) p.handed.items) }
-    ensures calls { MatchResult result (λ p. AllPerformed (setting (S.Store.word_at store.now) (S.Store.tag_at store.now) (M.Store.tag_at memory.old) (M.Memory.writable_at memory.old)) (machine reset (M.Store.word_at memory.old)) calls.now p.answers.items p.handed.items (machine core.new (M.Store.word_at memory.new))) (λ _. GivenUp (setting (S.Store.word_at store.now) (S.Store.tag_at store.now) (M.Store.tag_at memory.old) (M.Memory.writable_at memory.old)) (machine reset (M.Store.word_at memory.old)) (machine core.new (M.Store.word_at memory.new))) }
-    ensures tags { M.Store.tag_at memory.new ≡ M.Store.tag_at memory.old }
-    ensures writability { M.Memory.writable_at memory.new ≡ M.Memory.writable_at memory.old }
+    ensures late { IfOk result (λ p. RunsLateBeside (setting_of S.Store M.Store M.Memory.own store.now memory.old) (M.Store.word_at memory.old) (machine core.new (M.Store.word_at memory.new)) p.handed.items) }
+    ensures calls { AllTried (setting_of S.Store M.Store M.Memory.own store.now memory.old) (machine reset (M.Store.word_at memory.old)) calls.now (machine core.new (M.Store.word_at memory.new)) result }
+    ensures rest { OnlyWordsChange M.Store M.Memory.own memory.old memory.new }
 {
     core.reset();
     perform_all(heap, core, store, memory, calls)

@@ -1,9 +1,9 @@
 -- Laws of a routine's run. Assumes nothing.
 use Rattle.std.proofs.Common.{◌≡◌, ℕ, zero, suc, ◌+◌, ◌-◌, ◌<◌, ◌≤◌, Bool, true, false, cond, List, [], ◌∷◌, ◌++◌, Ok, Err, Result, sym, refl, ap, ◌∙◌, subst, append-nil, add-zero, add-suc, add-one, arith}
-use Rattle.memory.specs.Meaning.{Words, Tags}
+use Rattle.memory.specs.Meaning.{Words}
 use Rattle.stepper.specs.declared.event.Event.{Event}
 use Rattle.stepper.specs.declared.stepper.HasStopped.{HasStopped}
-use Rattle.stepper.specs.Step.{Setting, World, turn, setting}
+use Rattle.stepper.specs.Step.{Setting, World, turn}
 use Rattle.stepper.specs.Run.{advance, event_of, after_steps, first_events, Stepped, Ran, GivenUp}
 
 module _ (s : Setting) where
@@ -75,10 +75,9 @@ module _ (s : Setting) (words : Words) where
         leaves = ap (λ v. v.words) (step.goes ∙ still s w (had_stopped w w' x step) ∙ sofar.stands ∙ sym (stays s words n (limit - n) end) ∙ ap (after_steps s words) far);
       }
 
--- a step's promise, where the tags and the leave to write are known by other names
-pub told_of : {program : Words} {program_tags tags tags' : Tags} {writable writable' : ℕ → Bool} {w w' : World} {r : Result Event HasStopped} → tags ≡ tags' → writable ≡ writable' → Stepped (setting program program_tags tags writable) w r w' → Stepped (setting program program_tags tags' writable') w r w'
-told_of {program} {program_tags} {tags} {tags'} {writable} {writable'} {w} {w'} {r} p q h =
-    subst (λ t. Stepped (setting program program_tags t writable') w r w') p (subst (λ v. Stepped (setting program program_tags tags v) w r w') q h)
+-- a step's promise, where the setting is known by another name
+pub told_of : {s t : Setting} {w w' : World} {r : Result Event HasStopped} → s ≡ t → Stepped s w r w' → Stepped t w r w'
+told_of {s} {t} {w} {w'} {r} p h = subst (λ u. Stepped u w r w') p h
 
 -- between two steps a run can be given up
 pub given_up : (s : Setting) (words : Words) (n limit : ℕ) (w w' : World) (e : Event) → n < limit → w ≡ after_steps s words n → Stepped s w (Ok e) w' → GivenUp s words limit w'.words

@@ -1,7 +1,9 @@
 pub mod Events
+pub mod EventWords
 pub mod Registers
 pub mod Execute
 pub mod Access
 pub mod Step
 pub mod Run
 pub mod Alike
+pub mod Memories

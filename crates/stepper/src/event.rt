@@ -1,13 +1,16 @@
 // An event: what one instruction of a routine came to.
 ghost use Rattle.std.specs.Prelude.{◌≡◌};
 ghost use Rattle.stepper.specs.Events.{stop_number, stop_fault, kind_number, cause_number, fault_of};
+ghost use Rattle.stepper.specs.EventWords.{instruction_of};
 
+use isa::decode::decode;
 use isa::flags::Flags;
+use isa::instruction::Instruction;
 use isa::register::Register;
 use memory::fault::Fault;
 
 /// Why a routine stops.
-#[derive(Clone, Copy)]
+#[derive(Clone, Copy, PartialEq, Eq, Debug)]
 pub enum Stop {
     /// No word can be read at the next address.
     Fetch(Fault),
@@ -18,7 +21,7 @@ pub enum Stop {
 }
 
 /// How an instruction ended.
-#[derive(Clone, Copy)]
+#[derive(Clone, Copy, PartialEq, Eq, Debug)]
 pub enum Kind {
     /// Its condition held, and all its effects are made.
     Done,
@@ -29,21 +32,21 @@ pub enum Kind {
 }
 
 /// A register and the value that it was given. Register 15 is the next address.
-#[derive(Clone, Copy)]
+#[derive(Clone, Copy, PartialEq, Eq, Debug)]
 pub struct RegisterWrite {
     pub register: Register,
     pub value: u32,
 }
 
 /// A word that was put into the data memory.
-#[derive(Clone, Copy)]
+#[derive(Clone, Copy, PartialEq, Eq, Debug)]
 pub struct MemoryWrite {
     pub address: u32,
     pub value: u32,
 }
 
 /// One instruction and what it did. The word is 0 if none could be read.
-#[derive(Clone, Copy)]
+#[derive(Clone, Copy, PartialEq, Eq, Debug)]
 pub struct Event {
     pub address: u32,
     pub word: u32,
@@ -101,6 +104,16 @@ impl Event {
         match self.kind {
             Kind::Stopped(stop) => stop.number(),
             Kind::Done | Kind::Skipped => 0,
+        }
+    }
+
+    /// The instruction of the event, if a word was read and it is one.
+    pub fn instruction(&self) -> Option<Instruction>
+        ensures { result ≡ instruction_of self.now }
+    {
+        match self.kind {
+            Kind::Stopped(Stop::Fetch(_)) => None,
+            _ => decode(self.word),
         }
     }
 

@@ -11,7 +11,7 @@ use isa::register::Register;
 use isa::roles::byte_offset;
 
 /// What is left to do once an instruction has its operands.
-#[derive(Clone, Copy)]
+#[derive(Clone, Copy, PartialEq, Eq, Debug)]
 pub enum Work {
     /// A comparison: only the flags change.
     Compare,
@@ -48,12 +48,12 @@ pub fn execute(action: Action, first: u32, second: u32, flags: Flags) -> (Work, 
     match action {
         Action::Data(data) => arithmetic(data, first, second, flags),
         Action::Load(transfer) => {
-            let address = first.wrapping_add(transfer.offset as u32);
+            let address = first.wrapping_add(u32::from(transfer.offset));
             let register = transfer.rd;
             (Work::Load { register, address }, flags)
         }
         Action::Store(transfer) => {
-            let address = first.wrapping_add(transfer.offset as u32);
+            let address = first.wrapping_add(u32::from(transfer.offset));
             let value = second;
             (Work::Store(MemoryWrite { address, value }), flags)
         }

@@ -7,13 +7,13 @@ use super::event::RegisterWrite;
 use isa::register::Register;
 
 /// The values of registers 0 to 14.
-#[derive(Clone, Copy)]
+#[derive(Clone, Copy, PartialEq, Eq, Debug)]
 pub struct Registers {
     values: [u32; 15],
 }
 
 /// A register above 14 was asked for.
-#[derive(Clone, Copy, PartialEq, Debug)]
+#[derive(Clone, Copy, PartialEq, Eq, Debug)]
 pub struct UnknownRegister;
 
 impl UnknownRegister {
@@ -37,32 +37,28 @@ impl Registers {
     pub fn cell(&self, number: u8) -> Result<u32, UnknownRegister>
         ensures { result ≡ cell_of self.now.values number }
     {
-        if number > 14 {
-            return Err(UnknownRegister);
-        }
-        Ok(self.values[number as usize])
+        self.values
+            .get(usize::from(number))
+            .copied()
+            .ok_or(UnknownRegister)
     }
 
     /// What an instruction at an address reads in a register.
     pub fn read(&self, register: Register, address: u32) -> u32
         ensures { result ≡ read_at self.now.values address register }
     {
-        let number = register.number();
-        if number > 14 {
-            address.wrapping_add(8)
-        } else {
-            self.values[number as usize]
-        }
+        self.cell(register.number())
+            .unwrap_or(address.wrapping_add(8))
     }
 
     /// Gives a register its new value, if one is written and it is a cell.
     pub fn write(&mut self, write: Option<RegisterWrite>)
         ensures { self.new.values ≡ written self.old.values write }
     {
-        if let Some(write) = &write {
-            let number = write.register.number();
-            if number < 15 {
-                self.values[number as usize] = write.value;
+        if let Some(RegisterWrite { register, value }) = write {
+            let number = usize::from(register.number());
+            if number < self.values.len() {
+                self.values[number] = value;
             }
         }
     }

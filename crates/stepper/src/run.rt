@@ -1,6 +1,7 @@
 // A routine from its start to its stop.
 ghost use Rattle.std.specs.Prelude.{◌≡◌, ℕ, IfOk, MatchResult};
-ghost use Rattle.stepper.specs.Step.{setting};
+ghost use Rattle.memory.specs.Keeping.{OnlyWordsChange};
+ghost use Rattle.stepper.specs.Memories.{setting_of};
 ghost use Rattle.stepper.specs.Run.{Ran, GivenUp};
 ghost use Rattle.stepper.specs.Alike.{BothRan};
 
@@ -17,9 +18,8 @@ pub fn run<S: Store, M: Memory>(
     memory: &mut M,
     limit: u32,
 ) -> Result<Vec<Event>, AllocError>
-    ensures run { MatchResult result (λ events. Ran (setting (S.Store.word_at store.now) (S.Store.tag_at store.now) (M.Store.tag_at memory.old) (M.Memory.writable_at memory.old)) (M.Store.word_at memory.old) limit events.items (M.Store.word_at memory.new)) (λ _. GivenUp (setting (S.Store.word_at store.now) (S.Store.tag_at store.now) (M.Store.tag_at memory.old) (M.Memory.writable_at memory.old)) (M.Store.word_at memory.old) limit (M.Store.word_at memory.new)) }
-    ensures tags { M.Store.tag_at memory.new ≡ M.Store.tag_at memory.old }
-    ensures writability { M.Memory.writable_at memory.new ≡ M.Memory.writable_at memory.old }
+    ensures run { MatchResult result (λ events. Ran (setting_of S.Store M.Store M.Memory.own store.now memory.old) (M.Store.word_at memory.old) limit events.items (M.Store.word_at memory.new)) (λ _. GivenUp (setting_of S.Store M.Store M.Memory.own store.now memory.old) (M.Store.word_at memory.old) limit (M.Store.word_at memory.new)) }
+    ensures rest { OnlyWordsChange M.Store M.Memory.own memory.old memory.new }
 {
     let mut stepper = Stepper::new();
     let mut events = Vec::new(heap);
@@ -42,11 +42,9 @@ pub fn run_both<S: Store, M: Memory, S2: Store, M2: Memory>(
     memory2: &mut M2,
     limit: u32,
 ) -> Result<(Vec<Event>, Vec<Event>), AllocError>
-    ensures both { IfOk result (λ events. BothRan (setting (S.Store.word_at store.now) (S.Store.tag_at store.now) (M.Store.tag_at memory.old) (M.Memory.writable_at memory.old)) (setting (S2.Store.word_at store2.now) (S2.Store.tag_at store2.now) (M2.Store.tag_at memory2.old) (M2.Memory.writable_at memory2.old)) (M.Store.word_at memory.old) (M2.Store.word_at memory2.old) limit events.0.items events.1.items (M.Store.word_at memory.new) (M2.Store.word_at memory2.new)) }
-    ensures tags { M.Store.tag_at memory.new ≡ M.Store.tag_at memory.old }
-    ensures writability { M.Memory.writable_at memory.new ≡ M.Memory.writable_at memory.old }
-    ensures tags2 { M2.Store.tag_at memory2.new ≡ M2.Store.tag_at memory2.old }
-    ensures writability2 { M2.Memory.writable_at memory2.new ≡ M2.Memory.writable_at memory2.old }
+    ensures both { IfOk result (λ events. BothRan (setting_of S.Store M.Store M.Memory.own store.now memory.old) (setting_of S2.Store M2.Store M2.Memory.own store2.now memory2.old) (M.Store.word_at memory.old) (M2.Store.word_at memory2.old) limit events.0.items events.1.items (M.Store.word_at memory.new) (M2.Store.word_at memory2.new)) }
+    ensures rest { OnlyWordsChange M.Store M.Memory.own memory.old memory.new }
+    ensures rest2 { OnlyWordsChange M2.Store M2.Memory.own memory2.old memory2.new }
 {
     let first = run(heap, store, memory, limit)?;
     let second = run(heap, store2, memory2, limit)?;

@@ -1,8 +1,10 @@
 // The stepper and its step.
-ghost use Rattle.std.specs.Prelude.{◌≡◌, ℕ, Bool, false, replicate, MatchResult};
+ghost use Rattle.std.specs.Prelude.{◌≡◌, ℕ, Bool, false, replicate, None, MatchResult};
 ghost use Rattle.memory.specs.Meaning.{Words};
 ghost use Rattle.isa.specs.Decoding.{decoded};
+ghost use Rattle.memory.specs.Keeping.{OnlyWordsChange};
 ghost use Rattle.stepper.specs.Registers.{cell_of};
+ghost use Rattle.stepper.specs.Memories.{setting_of};
 ghost use Rattle.stepper.specs.Run.{Stepped};
 ghost use Rattle.stepper.specs.declared.event.Stop.TheVariants.{Access};
 ghost use Rattle.stepper.specs.Step.{Attempted, setting, world, understanding, start, stop_event, marked, skip_event, passed, done_event, moved, next_of, stopped_number};
@@ -17,7 +19,7 @@ use memory::fault::Fault;
 use memory::store::{Memory, Store};
 
 /// A routine in progress: its registers and flags, the address of the next instruction, and whether it has stopped.
-#[derive(Clone, Copy)]
+#[derive(Clone, Copy, PartialEq, Eq, Debug)]
 pub struct Stepper {
     registers: Registers,
     flags: Flags,
@@ -26,7 +28,7 @@ pub struct Stepper {
 }
 
 /// The stepper has stopped and takes no further step.
-#[derive(Clone, Copy, PartialEq, Debug)]
+#[derive(Clone, Copy, PartialEq, Eq, Debug)]
 pub struct HasStopped;
 
 impl HasStopped {
@@ -54,12 +56,7 @@ impl Stepper {
     {
         Stepper {
             registers: Registers::new(),
-            flags: Flags {
-                n: false,
-                z: false,
-                c: false,
-                v: false,
-            },
+            flags: Flags::default(),
             next: 0,
             stopped: false,
         }
@@ -93,20 +90,27 @@ impl Stepper {
         self.stopped
     }
 
+    // The event of the instruction at the next address, if it changes nothing.
+    fn event(&self, word: u32, kind: Kind) -> Event
+        ensures { result ≡ record { address = self.now.next; word = word; kind = kind; flags = self.now.flags; register = None; store = None } }
+    {
+        Event {
+            address: self.next,
+            word,
+            kind,
+            flags: self.flags,
+            register: None,
+            store: None,
+        }
+    }
+
     // A stop changes nothing but the mark.
     fn stop(&mut self, word: u32, why: Stop) -> Event
         ensures event { result ≡ stop_event self.old word why }
         ensures after { self.new ≡ marked self.old }
     {
         self.stopped = true;
-        Event {
-            address: self.next,
-            word,
-            kind: Kind::Stopped(why),
-            flags: self.flags,
-            register: None,
-            store: None,
-        }
+        self.event(word, Kind::Stopped(why))
     }
 
     // A skipped instruction is only passed by.
@@ -115,16 +119,9 @@ impl Stepper {
         ensures event { result ≡ skip_event self.old word }
         ensures after { self.new ≡ passed self.old }
     {
-        let address = self.next;
-        self.next = address.wrapping_add(4);
-        Event {
-            address,
-            word,
-            kind: Kind::Skipped,
-            flags: self.flags,
-            register: None,
-            store: None,
-        }
+        let event = self.event(word, Kind::Skipped);
+        self.next = self.next.wrapping_add(4);
+        event
     }
 
     // A done instruction, whose access is made.
@@ -133,18 +130,17 @@ impl Stepper {
         ensures event { result ≡ done_event self.old word flags effect }
         ensures after { self.new ≡ moved self.old work flags effect }
     {
-        let address = self.next;
-        self.registers.write(effect.register);
-        self.flags = flags;
-        self.next = next_address(address, work, effect.register);
-        Event {
-            address,
-            word,
-            kind: Kind::Done,
+        let Effect { register, store } = effect;
+        let event = Event {
             flags,
-            register: effect.register,
-            store: effect.store,
-        }
+            register,
+            store,
+            ..self.event(word, Kind::Done)
+        };
+        self.registers.write(register);
+        self.flags = flags;
+        self.next = next_address(self.next, work, register);
+        event
     }
 }
 
@@ -153,12 +149,9 @@ impl Stepper {
     fn perform<M: Memory>(&mut self, word: u32, memory: &mut M) -> Result<Event, Stop>
         requires { self.old.stopped ≡ false }
         ensures turn { Attempted (world self.old (M.Store.word_at memory.old)) word (understanding (M.Store.tag_at memory.old) (M.Memory.writable_at memory.old) (world self.old (M.Store.word_at memory.old)) word (decoded word)) (world self.new (M.Store.word_at memory.new)) result }
-        ensures tags { M.Store.tag_at memory.new ≡ M.Store.tag_at memory.old }
-        ensures writability { M.Memory.writable_at memory.new ≡ M.Memory.writable_at memory.old }
+        ensures rest { OnlyWordsChange M.Store M.Memory.own memory.old memory.new }
     {
-        let Some(instruction) = decode(word) else {
-            return Err(Stop::Outside);
-        };
+        let instruction = decode(word).ok_or(Stop::Outside)?;
         if !instruction.condition.holds(self.flags) {
             return Ok(self.skip(word));
         }
@@ -178,9 +171,8 @@ impl Stepper {
         store: &S,
         memory: &mut M,
     ) -> Result<Event, HasStopped>
-        ensures step { Stepped (setting (S.Store.word_at store.now) (S.Store.tag_at store.now) (M.Store.tag_at memory.old) (M.Memory.writable_at memory.old)) (world self.old (M.Store.word_at memory.old)) result (world self.new (M.Store.word_at memory.new)) }
-        ensures tags { M.Store.tag_at memory.new ≡ M.Store.tag_at memory.old }
-        ensures writability { M.Memory.writable_at memory.new ≡ M.Memory.writable_at memory.old }
+        ensures step { Stepped (setting_of S.Store M.Store M.Memory.own store.now memory.old) (world self.old (M.Store.word_at memory.old)) result (world self.new (M.Store.word_at memory.new)) }
+        ensures rest { OnlyWordsChange M.Store M.Memory.own memory.old memory.new }
     {
         if self.stopped {
             return Err(HasStopped);

@@ -1,5 +1,7 @@
-use Rattle.std.proofs.Common.{◌≡◌, ◌+◌, length, sym, refl, ap, ◌∙◌, arith, rules}
-use Rattle.stepper.specs.Step.{setting}
+use Rattle.std.proofs.Common.{◌≡◌, ◌+◌, length, sym, ap, ◌∙◌, arith, rules}
+use Rattle.std.specs.Result.{result_err}
+use Rattle.memory.specs.Keeping.{none_changes, both_change}
+use Rattle.stepper.specs.Memories.{setting_of, same_setting}
 use Rattle.pipeline.specs.Clock.{machine, clocked}
 use Rattle.pipeline.specs.Calls.{end_of, stop_in}
 use Rattle.pipeline.proofs.Placing.{Then, accepted, starts, clock_more, again, ends}
@@ -8,35 +10,34 @@ use Rattle.pipeline.proofs.state.Core.run.Goals as goal
 use Rattle.pipeline.proofs.state.Core.run.Goals.{After-place-written}
 
 -- what one turn leaves
-turned : (g : given.Over) (c : After-place-written g) → Then (setting (g.S.Store.word_at c.args.store.now) (g.S.Store.tag_at c.args.store.now) (g.M.Store.tag_at c.args.memory.now) (g.M.Memory.writable_at c.args.memory.now)) (machine c.args.self.now (g.M.Store.word_at c.args.memory.now)) c.args.budget c.args.list.now c.clocks.made c.place-written.result (machine c.tick-tick.new.self (g.M.Store.word_at c.tick-tick.new.memory)) c.place-written.new.list c.tick-tick.result.handed
+turned : (g : given.Over) (c : After-place-written g) → Then (setting_of g.S.Store g.M.Store g.M.Memory c.args.store.now c.args.memory.now) (machine c.args.self.now (g.M.Store.word_at c.args.memory.now)) c.args.budget c.args.list.now c.clocks.made c.place-written.result (machine c.tick-tick.new.self (g.M.Store.word_at c.tick-tick.new.memory)) c.place-written.new.list c.tick-tick.result.handed
 turned g c =
     let inv = c.clocks.invariant in
     let m = machine c.clocks.self (g.M.Store.word_at c.clocks.memory) in
-    let told = c.tick-tick.ensures.clock ∙ (λ i. clocked (setting (g.S.Store.word_at c.args.store.now) (g.S.Store.tag_at c.args.store.now) (inv.1 i) (inv.2 i)) m) in
+    let told = c.tick-tick.ensures.clock ∙ ap (λ s. clocked s m) (same_setting g.S.Store g.M.Store g.M.Memory c.args.store.now c.args.memory.now c.clocks.memory inv.1) in
     clock_more _ _ _ _ c.clocks.made c.clocks.written m _ c.clocks.list _ c.tick-tick.result.handed _ inv.0 (ap (λ z. z.machine) told) (ap (λ z. z.handed) told) c.place-written.ensures.list c.place-written.ensures.next
 
 pub clocks-init : goal.clocks-init
 clocks-init g c =
-    let p = accepted c.args.budget (length c.args.list.now) c.args.self.now (sym c.run_refusal.ensures ∙ c.in_default.is) in
-    (starts _ (machine c.args.self.now (g.M.Store.word_at c.args.memory.now)) c.args.budget c.args.list.now p.0 p.2 p.3 p.4, refl, refl, p.1)
+    let p = accepted c.args.budget (length c.args.list.now) c.args.self.now (sym c.check_run.ensures ∙ ap result_err c.in_ok-check_run.was) in
+    (starts _ (machine c.args.self.now (g.M.Store.word_at c.args.memory.now)) c.args.budget c.args.list.now p.0 p.2 p.3 p.4, none_changes g.M.Store g.M.Memory c.args.memory.now, p.1)
 
 pub tick-tick-requires : goal.tick-tick-requires
 tick-tick-requires g c = omega (arith, c.clocks.invariant.0.left)
 
 pub overflow_add-made : goal.overflow_add-made
-overflow_add-made g c = let under = c.clocks.invariant.0.under in let most = c.clocks.invariant.3 in search rules
+overflow_add-made g c = let under = c.clocks.invariant.0.under in let most = c.clocks.invariant.2 in search rules
 
 pub place-written-requires : goal.place-written-requires
 place-written-requires g c = omega (arith, c.clocks.invariant.0.room, c.clocks.auto.list)
 
-pub returns-in-Some-end_of : goal.returns-in-Some-end_of
-returns-in-Some-end_of g c =
+pub returns-in-Some : goal.returns-in-Some
+returns-in-Some g c =
     let inv = c.clocks.invariant in
     let full : length c.place-written.new.list ≡ length c.args.list.now = omega arith in
     record {
-      run = (sym c.run_refusal.ensures ∙ c.in_default.is, ends _ _ c.args.budget c.args.list.now c.clocks.made c.place-written.result _ _ c.tick-tick.result.handed c.in-Some-end_of.reason inv.0.under (turned g (goal.at.returns-in-Some-end_of g c).After-place-written) (ap (λ n. end_of n c.args.budget c.place-written.result (c.clocks.made + 1) c.tick-tick.new.self (stop_in c.tick-tick.result.handed)) (sym full) ∙ ap (end_of (length c.place-written.new.list) c.args.budget c.place-written.result (c.clocks.made + 1) c.tick-tick.new.self) (sym c.stop_in-stop.ensures) ∙ sym c.end_of.ensures ∙ c.in-Some-end_of.is));
-      tags = c.tick-tick.ensures.tags ∙ inv.1;
-      writability = c.tick-tick.ensures.writability ∙ inv.2;
+      run = (sym c.check_run.ensures ∙ ap result_err c.in_ok-check_run.was, ends _ _ c.args.budget c.args.list.now c.clocks.made c.place-written.result _ _ c.tick-tick.result.handed c.in-Some.reason inv.0.under (turned g (goal.at.returns-in-Some g c).After-place-written) (ap (λ n. end_of n c.args.budget c.place-written.result (c.clocks.made + 1) c.tick-tick.new.self (stop_in c.tick-tick.result.handed)) (sym full) ∙ ap (end_of (length c.place-written.new.list) c.args.budget c.place-written.result (c.clocks.made + 1) c.tick-tick.new.self) (sym c.stop_in-stop.ensures) ∙ sym c.end_of.ensures ∙ c.in-Some.is));
+      rest = both_change g.M.Store g.M.Memory inv.1 c.tick-tick.ensures.rest;
     }
 
 pub clocks-smaller : goal.clocks-smaller
@@ -46,8 +47,7 @@ pub clocks-preserved : goal.clocks-preserved
 clocks-preserved g c =
     let inv = c.clocks.invariant in
     let full : length c.place-written.new.list ≡ length c.args.list.now = omega arith in (
-      again _ _ c.args.budget c.args.list.now c.clocks.made c.place-written.result _ _ c.tick-tick.result.handed inv.0.under (turned g (goal.at.clocks-preserved g c).After-place-written) (ap (λ n. end_of n c.args.budget c.place-written.result (c.clocks.made + 1) c.tick-tick.new.self (stop_in c.tick-tick.result.handed)) (sym full) ∙ ap (end_of (length c.place-written.new.list) c.args.budget c.place-written.result (c.clocks.made + 1) c.tick-tick.new.self) (sym c.stop_in-stop.ensures) ∙ sym c.end_of.ensures ∙ c.in_default-end_of.is),
-      c.tick-tick.ensures.tags ∙ inv.1,
-      c.tick-tick.ensures.writability ∙ inv.2,
-      inv.3,
+      again _ _ c.args.budget c.args.list.now c.clocks.made c.place-written.result _ _ c.tick-tick.result.handed inv.0.under (turned g (goal.at.clocks-preserved g c).After-place-written) (ap (λ n. end_of n c.args.budget c.place-written.result (c.clocks.made + 1) c.tick-tick.new.self (stop_in c.tick-tick.result.handed)) (sym full) ∙ ap (end_of (length c.place-written.new.list) c.args.budget c.place-written.result (c.clocks.made + 1) c.tick-tick.new.self) (sym c.stop_in-stop.ensures) ∙ sym c.end_of.ensures ∙ c.in_default.is),
+      both_change g.M.Store g.M.Memory inv.1 c.tick-tick.ensures.rest,
+      inv.2,
     )
