@@ -1,7 +1,8 @@
 // Tables of events and clocks.
 ghost use Rattle.std.specs.Prelude.{◌≡◌, OnOk};
 ghost use Rattle.std.specs.Io.KnownBytes.{Appends};
-ghost use Rattle.stepper.specs.Step.{setting};
+ghost use Rattle.memory.specs.Keeping.{OnlyWordsChange};
+ghost use Rattle.stepper.specs.Memories.{setting_of};
 ghost use Rattle.pipeline.specs.Clock.{machine};
 ghost use Rattle.console.specs.Listing.{after_calls, listing};
 
@@ -30,10 +31,9 @@ pub fn print_listing<W: Write, S: Store, M: Memory>(
     memory: &mut M,
     limit: u32,
 ) -> anyhow::Result<()>
-    ensures lines { OnOk result (Appends (W.contents out.old) (W.contents out.new) (listing (setting (S.Store.word_at store.now) (S.Store.tag_at store.now) (M.Store.tag_at memory.old) (M.Memory.writable_at memory.old)) (machine core.old (M.Store.word_at memory.old)) limit)) }
-    ensures clocks { OnOk result (machine core.new (M.Store.word_at memory.new) ≡ after_calls (setting (S.Store.word_at store.now) (S.Store.tag_at store.now) (M.Store.tag_at memory.old) (M.Memory.writable_at memory.old)) (machine core.old (M.Store.word_at memory.old)) limit) }
-    ensures tags { M.Store.tag_at memory.new ≡ M.Store.tag_at memory.old }
-    ensures writability { M.Memory.writable_at memory.new ≡ M.Memory.writable_at memory.old }
+    ensures lines { OnOk result (Appends (W.contents out.old) (W.contents out.new) (listing (setting_of S.Store M.Store M.Memory.own store.now memory.old) (machine core.old (M.Store.word_at memory.old)) limit)) }
+    ensures clocks { OnOk result (machine core.new (M.Store.word_at memory.new) ≡ after_calls (setting_of S.Store M.Store M.Memory.own store.now memory.old) (machine core.old (M.Store.word_at memory.old)) limit) }
+    ensures rest { OnlyWordsChange M.Store M.Memory.own memory.old memory.new }
 {
     let mut buffer = [0u8; 80];
     for clock in 0..limit {

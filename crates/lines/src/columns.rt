@@ -3,7 +3,7 @@
 ghost use Rattle.std.specs.Prelude.{◌≡◌, ◌++◌, IfOk, Some, string_bytes, codes, decimal};
 ghost use Rattle.lines.specs.Columns.{kind_text, letter, flags_text, stop_text, effect_text, instruction_text};
 
-use isa::Disassembly;
+use isa::Assembly;
 use isa::flags::Flags;
 use isa::hex::Hex;
 use std::alloc::{AllocError, Global};
@@ -14,13 +14,16 @@ use stepper::event::{Event, Kind, Stop};
 pub fn instruction_column(heap: Global, event: Event) -> Result<String, AllocError>
     ensures { IfOk result (λ text. string_bytes text ≡ instruction_text event) }
 {
-    match event.kind {
-        Kind::Stopped(Stop::Fetch(_)) => String::from_str(heap, "-"),
-        _ => {
+    match event.instruction() {
+        Some(instruction) => {
             let address = event.address;
-            let word = event.word;
-            Disassembly { address, word }.to_string(heap)
+            let assembly = Assembly {
+                address,
+                instruction,
+            };
+            assembly.to_string(heap)
         }
+        None => String::from_str(heap, "-"),
     }
 }
 
