@@ -1,6 +1,6 @@
 // The memories that a routine runs on: the image's words, and a data memory of its own.
-ghost use Rattle.std.specs.Prelude.{◌≡◌, IfOk, replicate};
-ghost use Rattle.console.specs.Memories.{events_on, image_events};
+ghost use Rattle.std.specs.Prelude.{◌≡◌, IfOk};
+ghost use Rattle.console.specs.Memories.{GivenBy, events_on, image_events};
 
 use image::{Image, ImageStore};
 use memory::bank::Bank;
@@ -17,7 +17,7 @@ pub fn with_memories<T, F: FnOnce(&ImageStore<'_>, &mut Bank<'_>) -> T>(
     routine: F,
 ) -> T
     requires { F.IsAlwaysCallable routine }
-    ensures { (store : _) × (memory : _) × (after : _) × F.post routine store memory result after × (store.now.image.now ≡ image.now) × (store.now.tag ≡ 0) × (memory.now.base ≡ 0) × (memory.now.words.now ≡ replicate 1024 0) × (memory.now.tag ≡ 0) }
+    ensures { GivenBy F.FnOnce routine image.now result }
 {
     let mut words = [0u32; DATA_WORDS];
     let mut memory = Bank::new(0, &mut words, 0);

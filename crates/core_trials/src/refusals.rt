@@ -50,11 +50,24 @@ fn each_refusal(rt: HostRuntime) -> Result<(), Fail> {
             reason: 3,
         })
     );
-    refused_run(&rt, heap, &mut core, &store, &mut memory, 0, 1, 8)?;
-    refused_run(&rt, heap, &mut core, &store, &mut memory, 1_000_001, 1, 8)?;
-    refused_run(&rt, heap, &mut core, &store, &mut memory, 1, 0, 9)?;
-    refused_run(&rt, heap, &mut core, &store, &mut memory, 1, 4097, 9)?;
-    refused_run(&rt, heap, &mut core, &store, &mut memory, 0, 4097, 8)?;
+    for (budget, places, number) in [
+        (0, 1, 8),
+        (1_000_001, 1, 8),
+        (1, 0, 9),
+        (1, 4097, 9),
+        (0, 4097, 8),
+    ] {
+        refused_run(
+            &rt,
+            heap,
+            &mut core,
+            &store,
+            &mut memory,
+            budget,
+            places,
+            number,
+        )?;
+    }
     assert_eq!(rt; memory.read(0), Ok(5));
     assert_eq!(rt;
         ran(core.run(&store, &mut memory, 100, &mut list)),
@@ -75,9 +88,18 @@ fn each_refusal(rt: HostRuntime) -> Result<(), Fail> {
     assert_eq!(rt; stopped, expected);
     assert_eq!(rt; handed(core.clock(&store, &mut memory)), Err(6));
     assert_eq!(rt; state(&core), stopped);
-    refused_run(&rt, heap, &mut core, &store, &mut memory, 1, 1, 6)?;
-    refused_run(&rt, heap, &mut core, &store, &mut memory, 1, 0, 9)?;
-    refused_run(&rt, heap, &mut core, &store, &mut memory, 0, 0, 8)?;
+    for (budget, places, number) in [(1, 1, 6), (1, 0, 9), (0, 0, 8)] {
+        refused_run(
+            &rt,
+            heap,
+            &mut core,
+            &store,
+            &mut memory,
+            budget,
+            places,
+            number,
+        )?;
+    }
     assert_eq!(rt; memory.read(0), Ok(8));
     Ok(())
 }
