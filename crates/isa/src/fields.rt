@@ -4,6 +4,7 @@ ghost use Rattle.std.specs.Prelude.{◌≡◌, ◌+◌, ◌^◌, ◌<◌};
 ghost use Rattle.isa.specs.Layout.{field, placed};
 
 /// A run of `width` bits, of which the lowest is bit `low`.
+// That it lies in a word is asked where it is used: as a ghost field it would put a proof into each line of the manual's table.
 #[derive(Clone, Copy, PartialEq, Eq, Debug)]
 pub struct Field {
     low: u32,

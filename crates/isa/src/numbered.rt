@@ -19,6 +19,7 @@ pub(crate) trait Numbered: Copy {
         ensures { result ≡ number_of self };
 
     /// The one of a number, if there is one.
+    // No `TryFrom`: that a number names nothing is no error, as in `char::from_u32`.
     fn from_number(number: u32) -> Option<Self>
         ensures { result ≡ numbered number_of all number };
 

@@ -79,6 +79,7 @@ impl Reason {
     pub fn number(self) -> u8
         ensures { result ≡ reason_number self }
     {
+        // A match: a variant that carries a value has no number of its own.
         match self {
             Reason::Stop(_) => 1,
             Reason::ListFull => 2,
@@ -157,6 +158,7 @@ impl Core {
     }
 
     /// What stands in register 0 to 14; a higher number is refused.
+    // As the stepper answers it, and the flags below: no code takes either of the two, so a trait would have no user.
     pub fn register(&self, number: u8) -> Result<u32, UnknownRegister>
         ensures { result ≡ cell_of self.now.registers.values number }
     {
@@ -214,6 +216,7 @@ impl Core {
         check_run(self, budget, list.len())?;
         let mut made = 0;
         let mut written = 0;
+        // No `for` over the budget: each run ends by a reason, and the end of a `for` would never be reached.
         'clocks: loop {
             let tick = self.tick(store, memory);
             made += 1;

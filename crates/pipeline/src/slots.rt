@@ -56,6 +56,7 @@ pub struct WritebackSlot {
 }
 
 /// What a clock does to a slot, of whatever kind.
+// Three outcomes of one rank: an `Option` of an `Option` would not say which `None` keeps and which empties.
 #[derive(Clone, Copy, PartialEq, Eq, Debug)]
 pub enum Change<T> {
     Keep,

@@ -43,6 +43,8 @@ pub struct Performance {
     pub handed: Vec<Handed>,
 }
 
+// Core, store, memory and list stay parameters: a struct of them would have to promise of each borrow that it is the same.
+
 fn perform_clock<S: Store, M: Memory>(
     core: &mut Core,
     store: &S,

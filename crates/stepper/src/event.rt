@@ -64,6 +64,7 @@ impl Stop {
     pub fn number(self) -> u8
         ensures { result ≡ stop_number self }
     {
+        // A match: variants that carry a value have no number of their own.
         match self {
             Stop::Fetch(_) => 20,
             Stop::Outside => 21,
@@ -88,6 +89,7 @@ impl Kind {
     pub fn number(self) -> u8
         ensures { result ≡ kind_number self }
     {
+        // A match, as in `Stop::number`: a variant carries a value.
         match self {
             Kind::Done => 0,
             Kind::Skipped => 1,

@@ -113,6 +113,8 @@ impl Stepper {
         self.event(word, Kind::Stopped(why))
     }
 
+    // Three methods ask that the routine goes on: `step` tests it once, and a type for that state would say it no plainer.
+
     // A skipped instruction is only passed by.
     fn skip(&mut self, word: u32) -> Event
         requires { self.old.stopped ≡ false }
@@ -177,6 +179,7 @@ impl Stepper {
         if self.stopped {
             return Err(HasStopped);
         }
+        // No `?`: a stop is what the step answers, and no refusal of it.
         let word = match store.read(self.next) {
             Ok(word) => word,
             Err(fault) => return Ok(self.stop(0, Stop::Fetch(fault))),

@@ -7,6 +7,7 @@ use super::Register;
 
 impl Register {
     /// The register of this number, if there is one.
+    // No `TryFrom`: a number above 15 is no error here, as none is in `char::from_u32`.
     pub fn new(number: u8) -> Option<Register>
         ensures { MatchOption result (16 ≤ number) (λ x. x.number ≡ number) }
     {
