@@ -13,12 +13,16 @@ use Rattle.stepper.specs.Run.{first_events}
 use Rattle.stepper.specs.Step.{setting}
 use Rattle.stepper.specs.declared.event.Event.{Event}
 
--- a store of the image, and 1,024 zeros from address 0 on, both under tag 0
+-- the words of a data memory before a routine runs
+abbrev pub zeros : List ℕ
+zeros = replicate 1024 0
+
+-- a store of the image, and a data memory of zeros from address 0 on, both under tag 0
 pub record MadeFor (image : Image) (store : ImageStore) (memory : Bank) : Type 0 where
   pub serves : store.image.now ≡ image
   pub program_tag : store.tag ≡ 0
   pub base : memory.base ≡ 0
-  pub words : memory.words.now ≡ replicate 1024 0
+  pub words : memory.words.now ≡ zeros
   pub data_tag : memory.tag ≡ 0
 
 -- f at two such memories may give r
@@ -37,4 +41,4 @@ events_on store memory limit =
 -- the same on the two memories made for an image
 abbrev pub image_events : Image → ℕ → List Event
 image_events image limit =
-    first_events (setting (served (image_words image)) (one_tag 0) (one_tag 0) everywhere) (bank_words 0 (replicate 1024 0)) limit
+    first_events (setting (served (image_words image)) (one_tag 0) (one_tag 0) everywhere) (bank_words 0 zeros) limit
