@@ -7,13 +7,10 @@ use isa::Disassembly;
 use std::io::Write;
 
 fn print_words<W: Write>(out: &mut W, image: &Image) -> anyhow::Result<()> {
-    let mut address = 0u32;
-    for index in 0..image.len() {
-        if let Some(word) = image.word(index) {
-            let text = Disassembly { address, word };
-            writeln!(out, "{address:08x} {word:08x} {text}")?;
-            address = address.wrapping_add(4);
-        }
+    let words = (0..image.len()).filter_map(|index| image.word(index));
+    for (address, word) in (0..=u32::MAX).step_by(4).zip(words) {
+        let text = Disassembly { address, word };
+        writeln!(out, "{address:08x} {word:08x} {text}")?;
     }
     Ok(())
 }
