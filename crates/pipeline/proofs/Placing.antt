@@ -9,7 +9,7 @@ use Rattle.memory.specs.Meaning.{Words}
 use Rattle.pipeline.specs.Clock.{Machine, Clocked, stamped, retired, behind_writeback, clocked}
 use Rattle.pipeline.specs.MemoryStage.{to_writeback}
 use Rattle.pipeline.specs.Writeback.{handed_out, hands_out_stop}
-use Rattle.pipeline.specs.Calls.{most_clocks, run_refusal, tick, handed_by, onward, handed_on, stop_in, placed, end_of, end_after, Runs}
+use Rattle.pipeline.specs.Calls.{most_clocks, tick, handed_by, onward, handed_on, stop_in, placed, end_of, end_after, Runs}
 use Rattle.pipeline.specs.declared.calls.Reason.{Reason}
 use Rattle.pipeline.specs.declared.clock.Handed.{Handed}
 use Rattle.pipeline.specs.declared.state.Core.{Core}
@@ -97,11 +97,6 @@ module _ (s : Setting) (before : Machine) (budget : ℕ) (list : List Handed) wh
         earlier = st.earlier;
       }
 
-  -- a run that is not refused begins
-  pub starts : 0 < budget → 0 < length list → before.core.stopped ≡ false → before.core.clocks < most_clocks → Sofar 0 0 before list
-  starts b l live left =
-      record { under = b; stands = refl; count = refl; fills = refl; room = l; live = live; left = left; earlier = λ n q. ap (end_after s before budget list) (let z : n ≡ 0 = omega arith in z) }
-
   -- what is known of the end after the clock just made
   told : (made written : ℕ) (m : Machine) (filled : List Handed) (o : Option Handed) (r : Option Reason) → Then made written m filled o → end_of (length list) budget written (made + 1) m.core (stop_in o) ≡ r → end_after s before budget list (suc made) ≡ r
   told made written m filled o r st e =
@@ -136,7 +131,3 @@ module _ (s : Setting) (before : Machine) (budget : ℕ) (list : List Handed) wh
         ends = ap (end_after s before budget list) (add-one made) ∙ told made written m filled o (Some reason) st e;
         earlier = λ n q. st.earlier n (omega arith);
       }
-
--- what a run that is not refused was given
-pub accepted : (budget places : ℕ) (c : Core) → run_refusal budget places c ≡ None → (0 < budget) × (budget ≤ 1000000) × (0 < places) × (c.stopped ≡ false) × (c.clocks < most_clocks)
-accepted budget places c e = grind (arith, nat_tests)

@@ -1,5 +1,5 @@
 -- What the due clocks of a flight tell of the instructions in it. Assumes nothing.
-use Rattle.std.proofs.Common.{◌≡◌, ℕ, ◌+◌, ◌<◌, ◌≤◌, Bool, true, false, cond, ◌&&◌, ◌||◌, List, length, is_some, Some, None, Ok, Err, Option, Result, sym, refl, ap, ◌∙◌, arith, length-set}
+use Rattle.std.proofs.Common.{◌≡◌, ℕ, ◌+◌, ◌<◌, ◌≤◌, Bool, true, false, cond, ◌&&◌, ◌||◌, List, length, Some, None, Ok, Err, Option, Result, sym, refl, ap, ◌∙◌, arith, length-set}
 use Rattle.std.specs.Result.{result_ok}
 use Rattle.memory.specs.Meaning.{reading as read}
 use Rattle.isa.specs.declared.instruction.Instruction.{Instruction}
@@ -8,9 +8,9 @@ use Rattle.stepper.specs.Step.{Setting, World, turn}
 use Rattle.stepper.specs.declared.event.RegisterWrite.{RegisterWrite}
 use Rattle.stepper.specs.declared.event.Stop.{Stop}
 use Rattle.pipeline.specs.Writeback.{register_of}
-use Rattle.pipeline.specs.ExecuteStage.{memory_write, taken_by}
+use Rattle.pipeline.specs.ExecuteStage.{memory_write}
 use Rattle.pipeline.specs.FetchStage.{in_decode, is_write_15}
-use Rattle.refinement.specs.ClockLaw.{instruction_of, which, is_done, is_skipped, is_branch, writes_15, taken_branch, done_write_15, skipped_write_15, brought, load_of, feeds, bit}
+use Rattle.refinement.specs.ClockLaw.{instruction_of, which, is_done, is_skipped, writes_15, done_write_15, brought, load_of, feeds, bit}
 use Rattle.refinement.proofs.Facts.{Facts, facts}
 use Rattle.refinement.proofs.Found.{found}
 use Rattle.refinement.proofs.View.{regs, pc, halted, next, ev, held_at, memory_at, gap, on, due, mslot, wslot}
@@ -31,14 +31,8 @@ module _ (s : Setting) where
   pub instr : (u : World) → instruction_of (ev s u) ≡ result_ok (held_at s (pc u))
   instr u = found s.data_tags s.writable u (read s.program s.program_tags (pc u))
 
-  pub is_taken : (u : World) → taken_branch (ev s u) ≡ is_some (taken_by (memory_at s u).pending)
-  is_taken u = ap (λ x. is_done (ev s u).kind && which is_branch x) (instr u) ∙ (of u).taken
-
   pub is_done_15 : (u : World) → done_write_15 (ev s u) ≡ is_write_15 (ev s u).register
   is_done_15 u = ap (λ x. is_done (ev s u).kind && which writes_15 x) (instr u) ∙ (of u).wrote15
-
-  pub is_skipped_15 : (u : World) → skipped_write_15 (ev s u) ≡ (is_skipped (ev s u).kind && in_decode (Some (held_at s (pc u))))
-  is_skipped_15 u = ap (λ x. is_skipped (ev s u).kind && which writes_15 x) (instr u) ∙ ap (λ x. is_skipped (ev s u).kind && x) (which_15 (held_at s (pc u)))
 
   pub is_load : (u : World) → load_of (ev s u) ≡ cond (is_done (ev s u).kind || is_skipped (ev s u).kind) (brought (result_ok (held_at s (pc u)))) None
   is_load u = ap (λ x. cond (is_done (ev s u).kind || is_skipped (ev s u).kind) (brought x) None) (instr u)

@@ -1,10 +1,10 @@
-use Rattle.std.proofs.Common.{◌≡◌, ◌+◌, length, sym, ap, ◌∙◌, arith, rules}
+use Rattle.std.proofs.Common.{◌≡◌, ◌+◌, length, sym, ap, ◌∙◌, arith}
 use Rattle.std.specs.Result.{result_err}
-use Rattle.memory.specs.Keeping.{none_changes, both_change}
+use Rattle.memory.specs.Keeping.{both_change}
 use Rattle.stepper.specs.Memories.{setting_of, same_setting}
 use Rattle.pipeline.specs.Clock.{machine, clocked}
 use Rattle.pipeline.specs.Calls.{end_of, stop_in}
-use Rattle.pipeline.proofs.Placing.{Then, accepted, starts, clock_more, again, ends}
+use Rattle.pipeline.proofs.Placing.{Then, clock_more, again, ends}
 use Rattle.pipeline.proofs.state.Core.run.Given as given
 use Rattle.pipeline.proofs.state.Core.run.Goals as goal
 use Rattle.pipeline.proofs.state.Core.run.Goals.{After-place-written}
@@ -17,20 +17,6 @@ turned g c =
     let told = c.tick-tick.ensures.clock ∙ ap (λ s. clocked s m) (same_setting g.S.Store g.M.Store g.M.Memory c.args.store.now c.args.memory.now c.clocks.memory inv.1) in
     clock_more _ _ _ _ c.clocks.made c.clocks.written m _ c.clocks.list _ c.tick-tick.result.handed _ inv.0 (ap (λ z. z.machine) told) (ap (λ z. z.handed) told) c.place-written.ensures.list c.place-written.ensures.next
 
-pub clocks-init : goal.clocks-init
-clocks-init g c =
-    let p = accepted c.args.budget (length c.args.list.now) c.args.self.now (sym c.check_run.ensures ∙ ap result_err c.in_ok-check_run.was) in
-    (starts _ (machine c.args.self.now (g.M.Store.word_at c.args.memory.now)) c.args.budget c.args.list.now p.0 p.2 p.3 p.4, none_changes g.M.Store g.M.Memory c.args.memory.now, p.1)
-
-pub tick-tick-requires : goal.tick-tick-requires
-tick-tick-requires g c = omega (arith, c.clocks.invariant.0.left)
-
-pub overflow_add-made : goal.overflow_add-made
-overflow_add-made g c = let under = c.clocks.invariant.0.under in let most = c.clocks.invariant.2 in search rules
-
-pub place-written-requires : goal.place-written-requires
-place-written-requires g c = omega (arith, c.clocks.invariant.0.room, c.clocks.auto.list)
-
 pub returns-in-Some : goal.returns-in-Some
 returns-in-Some g c =
     let inv = c.clocks.invariant in
@@ -39,9 +25,6 @@ returns-in-Some g c =
       run = (sym c.check_run.ensures ∙ ap result_err c.in_ok-check_run.was, ends _ _ c.args.budget c.args.list.now c.clocks.made c.place-written.result _ _ c.tick-tick.result.handed c.in-Some.reason inv.0.under (turned g (goal.at.returns-in-Some g c).After-place-written) (ap (λ n. end_of n c.args.budget c.place-written.result (c.clocks.made + 1) c.tick-tick.new.self (stop_in c.tick-tick.result.handed)) (sym full) ∙ ap (end_of (length c.place-written.new.list) c.args.budget c.place-written.result (c.clocks.made + 1) c.tick-tick.new.self) (sym c.stop_in-stop.ensures) ∙ sym c.end_of.ensures ∙ c.in-Some.is));
       rest = both_change g.M.Store g.M.Memory inv.1 c.tick-tick.ensures.rest;
     }
-
-pub clocks-smaller : goal.clocks-smaller
-clocks-smaller g c = omega (arith, c.clocks.invariant.0.under)
 
 pub clocks-preserved : goal.clocks-preserved
 clocks-preserved g c =
