@@ -1,5 +1,5 @@
 -- The refusal that the tests give is the one that the format asks for.
-use Rattle.std.proofs.Common.{◌≡◌, ℕ, zero, suc, ◌<◌, ◌≤◌, Bool, true, false, eqb, ◌⊎◌, List, length, Some, None, Decides, Option, sym, refl, subst, inl, inr, ⊎_elim, arith}
+use Rattle.std.proofs.Common.{◌≡◌, ℕ, zero, suc, ◌<◌, ◌≤◌, Bool, true, false, eqb, ◌⊎◌, List, length, Some, None, Decides, Option, sym, refl, subst, ⊎_elim, arith}
 use Rattle.std.proofs.lemmas.Bool.{both_ways, cases_lt, not-true}
 use Rattle.std.proofs.lemmas.Bool.Decides.{nat_tests, Decides-eqb, Decides-not, not_from_Decides}
 use Rattle.std.proofs.ByRecursion.{Decides-by_and}
@@ -35,11 +35,7 @@ tests a b c d i = require a (Check i) (require b (Place i) (require c (Count i) 
 
 -- no refusal: all passed
 tests_none : (a b c d : Bool) (i : ℕ) → tests a b c d i ≡ None → (a ≡ true) × (b ≡ true) × (c ≡ true) × (d ≡ true)
-tests_none false b c d i none = absurd (let z : ◌≡◌ {A = ℕ} 0 1 = cc in omega arith)
-tests_none true false c d i none = absurd (let z : ◌≡◌ {A = ℕ} 0 1 = cc in omega arith)
-tests_none true true false d i none = absurd (let z : ◌≡◌ {A = ℕ} 0 1 = cc in omega arith)
-tests_none true true true false i none = absurd (let z : ◌≡◌ {A = ℕ} 0 1 = cc in omega arith)
-tests_none true true true true i none = (refl, refl, refl, refl)
+tests_none a b c d i none = grind arith
 
 -- which test failed, and that those before it passed
 abbrev FailedFirst : Bool → Bool → Bool → Bool → ℕ → Refusal → Type 0
@@ -50,11 +46,7 @@ FailedFirst a b c d i r =
     ⊎ ((Filler i ≡ r) × (a ≡ true) × (b ≡ true) × (c ≡ true) × (d ≡ false))))
 
 tests_some : (a b c d : Bool) (i : ℕ) (r : Refusal) → tests a b c d i ≡ Some r → FailedFirst a b c d i r
-tests_some false b c d i r some = inl ((cc), refl)
-tests_some true false c d i r some = inr (inl ((cc), refl, refl))
-tests_some true true false d i r some = inr (inr (inl ((cc), refl, refl, refl)))
-tests_some true true true false i r some = inr (inr (inr ((cc), refl, refl, refl, refl)))
-tests_some true true true true i r some = absurd (let z : ◌≡◌ {A = ℕ} 0 1 = cc in omega arith)
+tests_some a b c d i r some = grind arith
 
 -- of the block at place i
 module _ (bytes : List ℕ) (i : ℕ) where
@@ -120,21 +112,17 @@ module _ (bytes : List ℕ) (i : ℕ) where
 
 -- a test and what follows it
 require_none : (test : Bool) (q : Refusal) (rest : Option Refusal) → require test q rest ≡ None → (test ≡ true) × (rest ≡ None)
-require_none false q rest none = absurd (let z : ◌≡◌ {A = ℕ} 0 1 = cc in omega arith)
-require_none true q rest none = (refl, none)
+require_none test q rest none = grind arith
 
 require_some : (test : Bool) (q : Refusal) (rest : Option Refusal) (r : Refusal) → require test q rest ≡ Some r → ((test ≡ false) × (q ≡ r)) ⊎ ((test ≡ true) × (rest ≡ Some r))
-require_some false q rest r some = inl (refl, (cc))
-require_some true q rest r some = inr (refl, some)
+require_some test q rest r some = grind arith
 
 -- of two answers the first that there is
 or_none : (o p : Option Refusal) → option_or o p ≡ None → (o ≡ None) × (p ≡ None)
-or_none None p none = (refl, none)
-or_none (Some r) p none = absurd (let z : ◌≡◌ {A = ℕ} 0 1 = cc in omega arith)
+or_none o p none = grind arith
 
 or_some : (o p : Option Refusal) (r : Refusal) → option_or o p ≡ Some r → (o ≡ Some r) ⊎ ((o ≡ None) × (p ≡ Some r))
-or_some None p r some = inr (refl, some)
-or_some (Some q) p r some = inl some
+or_some o p r some = grind arith
 
 -- no refusal among the first k blocks: they are all sound
 first_sound : (bytes : List ℕ) (k : ℕ) → k ≤ block_count bytes → first_refusal bytes k ≡ None → (j : ℕ) → j < k → Sound bytes j
@@ -157,7 +145,7 @@ sound_first bytes (suc k) upto sound =
 
 -- a refusal among the first k blocks names the first of them at fault
 first_fault : (bytes : List ℕ) (k : ℕ) (r : Refusal) → WholeBlocks bytes → k ≤ block_count bytes → first_refusal bytes k ≡ Some r → AtFault bytes r
-first_fault bytes zero r size upto some = absurd (let z : ◌≡◌ {A = ℕ} 0 1 = cc in omega arith)
+first_fault bytes zero r size upto some = grind arith
 first_fault bytes (suc k) r size upto some =
     ⊎_elim
     (λ (before : first_refusal bytes k ≡ Some r). first_fault bytes k r size (omega arith) before)
@@ -172,16 +160,12 @@ reached_refusal bytes i r reached some =
     sym
     (block_decides
     bytes
-    (block_words bytes i)
     i
-    (block_refusal (block_count bytes) i (block_words bytes i))
     r
     (size_fits_lem bytes reached.size)
     inside
     (sound_first bytes i (omega arith) reached.before)
-    refl
-    refl
-    some)
+    (sym some))
 
 -- a test of what does not hold fails
 fails : {P : Type 0} (test : Bool) → Decides test P → (P → ⊥) → test ≡ false

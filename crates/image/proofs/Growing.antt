@@ -3,13 +3,13 @@ use Rattle.std.proofs.Common.{◌≡◌, ℕ, ◌+◌, ◌-◌, ◌<◌, ◌≤�
 use Rattle.std.proofs.lemmas.List.FromFn.{map-range_with_len_more}
 use Rattle.std.proofs.ByRecursion.{All-push}
 use Rattle.std.proofs.lemmas.List.{flat_map_more, length_push, take-take}
-use Rattle.std.proofs.lemmas.Bool.{cases_lt}
+use Rattle.std.proofs.lemmas.Bool.{and_from, cases_lt, le-leb}
 use Rattle.std.specs.List.{range_with_len, between, flat_map, AllByRecursion}
 use Rattle.image.specs.declared.block.Block.{Block}
 use Rattle.image.specs.Formats.{Format}
-use Rattle.image.specs.Images.{words_in}
+use Rattle.image.specs.Images.{bytes_words, words_in}
 use Rattle.image.specs.Layout.{block_count, block_words, carried, count_of}
-use Rattle.image.specs.Packing.{packed}
+use Rattle.image.specs.Packing.{packed, well_filled}
 use Rattle.image.proofs.Packed.{packed_push}
 
 -- the blocks read so far: each is full while more are to come
@@ -52,3 +52,15 @@ grown_more bytes k blocks grown block read format so_far inside same kept counte
       tight = packed_push blocks block (so_far.whole inside) (omega (arith, some.0)) (omega (arith, some.1));
       words = words_more bytes k blocks block (omega (arith, some.1)) kept' counted' so_far.words;
     })
+
+-- all blocks are read: they are filled as an image's are, and have the words of the bytes
+pub record Read (bytes : List ℕ) (blocks : List Block) : Type 0 where
+  pub filled : well_filled blocks ≡ true
+  pub words : flat_map words_in blocks ≡ bytes_words bytes
+
+pub grown_all : (bytes : List ℕ) (k : ℕ) (blocks : List Block) → Format bytes → Grown bytes k blocks → k ≡ block_count bytes → Read bytes blocks
+grown_all bytes k blocks format grown all =
+    record {
+      filled = and_from _ _ (le-leb (length blocks) 64 (omega (arith, grown.many, format.size.most))) grown.tight;
+      words = grown.words ∙ ap (λ n. flat_map carried (map (block_words bytes) (range_with_len 0 n))) all;
+    }

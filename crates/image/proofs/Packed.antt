@@ -1,12 +1,14 @@
 -- Packed blocks: where the words of an image stand in them, and how a list of them grows.
-use Rattle.std.proofs.Common.{◌≡◌, ℕ, zero, suc, ◌+◌, ◌-◌, ◌*◌, ◌/◌, ◌%◌, ◌<◌, ◌≤◌, true, eqb, leb, List, [], ◌∷◌, ◌++◌, length, get_or, Some, None, Option, sym, refl, ap, ◌∙◌, subst, ⊎_elim, arith, length-append, Bor, MatchOption}
+use Rattle.std.proofs.Common.{◌≡◌, ℕ, zero, suc, ◌+◌, ◌-◌, ◌*◌, ◌/◌, ◌%◌, ◌<◌, ◌≤◌, true, leb, List, [], ◌∷◌, ◌++◌, length, get_or, Some, None, Option, sym, refl, ap, ◌∙◌, subst, ⊎_elim, arith, length-append, Bor, MatchOption}
 use Rattle.std.proofs.lemmas.List.{get_or_append_left, get_or-append_right, length-take-le}
-use Rattle.std.proofs.lemmas.Bool.{and_parts, and_from, cases_lt, cond_below, cond_above, eq-eqb, eqb-true, le-leb, leb-true}
-use Rattle.std.specs.Slice.{IsGetResult}
+use Rattle.std.proofs.lemmas.Bool.{and_parts, and_from, cases_lt, cond_below, cond_above, eq-eqb, le-leb, leb-true}
+use Rattle.std.proofs.lemmas.Bool.Decides.{nat_tests}
+use Rattle.std.specs.Slice.{IsGetResult, IsItemAt}
 use Rattle.std.specs.List.{flat_map, AllByRecursion}
 use Rattle.image.specs.declared.block.Block.{Block}
 use Rattle.image.specs.Images.{words_in}
 use Rattle.image.specs.Layout.{word_of}
+use Rattle.image.specs.ServedWords.{few}
 use Rattle.image.specs.Packing.{packed, well_filled}
 
 -- a block gives as many words as it counts
@@ -16,19 +18,17 @@ length_words_in block = length-take-le block.count block.words block.within
 -- what follows a block is packed too
 pub packed_tail : (block : Block) (blocks : List Block) → packed (block ∷ blocks) ≡ true → packed blocks ≡ true
 packed_tail block [] tight = refl
-packed_tail block (next ∷ more) tight = (and_parts (eqb block.count 126) (packed (next ∷ more)) tight).1
+packed_tail block (next ∷ more) tight = grind arith
 
 -- a block with another behind it is full
 pub packed_full : (block : Block) (blocks : List Block) → packed (block ∷ blocks) ≡ true → 0 < length blocks → block.count ≡ 126
 packed_full block [] tight behind = absurd (omega arith)
-packed_full block (next ∷ more) tight behind =
-    eqb-true block.count 126 (and_parts (eqb block.count 126) (packed (next ∷ more)) tight).0
+packed_full block (next ∷ more) tight behind = grind (arith, nat_tests)
 
 -- no block counts more words than it has room for
 pub packed_room : (block : Block) (blocks : List Block) → packed (block ∷ blocks) ≡ true → block.count ≤ 126
-packed_room block [] tight =
-    leb-true block.count 126 (and_parts (leb 1 block.count) (leb block.count 126) tight).1
-packed_room block (next ∷ more) tight = omega (arith, packed_full block (next ∷ more) tight (omega arith))
+packed_room block [] tight = grind (arith, nat_tests)
+packed_room block (next ∷ more) tight = grind (arith, nat_tests)
 
 -- the words of a block and of those behind it
 length_words : (block : Block) (blocks : List Block) → length (flat_map words_in (block ∷ blocks)) ≡ block.count + length (flat_map words_in blocks)
@@ -49,17 +49,6 @@ word_in (block ∷ blocks) (suc q) r d tight inside within =
       omega (arith, length-append (words_in block) (flat_map words_in blocks), rest.0),
       get_or-append_right (words_in block) (flat_map words_in blocks) 126 (suc q * 126 + r) 0 whole (omega arith)
           ∙ (rw back rest.1),
-    )
-
--- there are at most 126 words to a block
-pub words_most : (blocks : List Block) → packed blocks ≡ true → length (flat_map words_in blocks) ≤ length blocks * 126
-words_most [] tight = omega arith
-words_most (block ∷ blocks) tight =
-    omega (
-      arith,
-      length_words block blocks,
-      packed_room block blocks tight,
-      words_most blocks (packed_tail block blocks tight),
     )
 
 -- past the words of a block that is not full there is no other word
@@ -92,7 +81,7 @@ words_in_all (block ∷ next ∷ more) (suc q) last tight end is =
 
 -- what the last block says of the number of words; `xs` is the slice that it was read from
 pub last_words : (xs blocks : List Block) (n : ℕ) (r : Option (Bor Block)) → xs ≡ blocks → n ≡ length blocks → packed blocks ≡ true → IsGetResult xs 0 (length xs - 1) r → MatchOption r (length (flat_map words_in blocks) ≡ 0) (λ last. (1 ≤ n) × (length (flat_map words_in blocks) ≡ (n - 1) * 126 + last.now.count))
-last_words xs blocks n None same size tight item = omega (arith, ap length same, words_most blocks tight, item.3)
+last_words xs blocks n None same size tight item = omega (arith, ap length same, few blocks tight, item.3)
 last_words xs blocks n (Some last) same size tight item =
     let some : 0 < length xs = item.3.0 in
     let long = ap length same in
@@ -102,7 +91,7 @@ last_words xs blocks n (Some last) same size tight item =
 -- past the blocks there is no word
 pub word_beyond : (blocks : List Block) (index : ℕ) → packed blocks ≡ true → length blocks ≤ index / 126 → word_of (flat_map words_in blocks) index ≡ None
 word_beyond blocks index tight beyond =
-    sym (cond_above index (length (flat_map words_in blocks)) _ None None (omega (arith, words_most blocks tight)) refl)
+    sym (cond_above index (length (flat_map words_in blocks)) _ None None (omega (arith, few blocks tight)) refl)
 
 -- what the image has at an index is what one of its blocks has there
 pub word_at : (blocks : List Block) (index : ℕ) (block : Block) → packed blocks ≡ true → index / 126 < length blocks → block ≡ get_or blocks (index / 126) block → word_of (flat_map words_in blocks) index ≡ word_of (words_in block) (index % 126)
@@ -127,6 +116,13 @@ word_at blocks index block tight inside is =
     ∙ cond_above (index % 126) (length (words_in there)) _ None None past refl)
     (cases_lt (index % 126) (length (words_in there))))
 
+-- what is looked up among the blocks has the word of that index, if any block has; `xs` is the slice that is read from
+pub block_found : (xs blocks : List Block) (index : ℕ) (r : Option (Bor Block)) → xs ≡ blocks → packed blocks ≡ true → IsItemAt xs (index / 126) r → MatchOption r (word_of (flat_map words_in blocks) index ≡ None) (λ block. word_of (flat_map words_in blocks) index ≡ word_of (words_in block.now) (index % 126))
+block_found xs blocks index None same tight item =
+    word_beyond blocks index tight (omega (arith, ap length same, item.3))
+block_found xs blocks index (Some block) same tight item =
+    word_at blocks index block.now tight (omega (arith, ap length same, item.3.0)) (item.1 ∙ ap (λ (bs : List Block). get_or bs (index / 126) block.now) same)
+
 -- the blocks of an image are packed
 pub filled_packed : (blocks : List Block) → well_filled blocks ≡ true → packed blocks ≡ true
 filled_packed blocks filled = (and_parts (leb (length blocks) 64) (packed blocks) filled).1
@@ -136,3 +132,7 @@ pub packed_push : (blocks : List Block) (block : Block) → AllByRecursion (λ b
 packed_push [] block all some most = and_from _ _ (le-leb 1 block.count some) (le-leb block.count 126 most)
 packed_push (x ∷ []) block all some most = and_from _ _ (eq-eqb x.count 126 all.0) (packed_push [] block tt some most)
 packed_push (x ∷ y ∷ ys) block all some most = and_from _ _ (eq-eqb x.count 126 all.0) (packed_push (y ∷ ys) block all.1 some most)
+
+-- and there are at most 64
+pub filled_few : (blocks : List Block) → well_filled blocks ≡ true → length blocks ≤ 64
+filled_few blocks filled = leb-true (length blocks) 64 (and_parts (leb (length blocks) 64) (packed blocks) filled).0

@@ -1,5 +1,6 @@
 -- Which refusal bytes get: the first of the tests, in the order in which they are tried, that fails.
-use Rattle.std.specs.Prelude.{ℕ, zero, suc, ◌+◌, ◌%◌, ◌^◌, Bool, true, cond, not, ◌&&◌, List, [], ◌∷◌, length, Some, None, sum, Option, ◌==◌, nat_le, nat_lt}
+use Rattle.std.specs.Prelude.{ℕ, zero, suc, ◌+◌, ◌%◌, ◌^◌, Bool, cond, not, ◌&&◌, List, length, Some, None, sum, Option, ◌==◌, nat_le, nat_lt}
+use Rattle.std.specs.List.{list_all}
 use Rattle.std.specs.Option.{option_or}
 use Rattle.image.specs.declared.refusal.Refusal.{Refusal}
 use Rattle.image.specs.declared.refusal.Refusal.TheVariants.{Length, Check, Place, Count, Filler}
@@ -22,8 +23,7 @@ abbrev pub count_fits : ℕ → ℕ → ℕ → Bool
 count_fits n i count = cond (nat_lt (i + 1) n) (count == 126) (nat_le 1 count && nat_le count 126)
 
 abbrev pub all_zero : List ℕ → Bool
-all_zero [] = true
-all_zero (word ∷ words) = word == 0 && all_zero words
+all_zero words = list_all (λ word. word == 0) words
 
 -- the refusal where the test fails, else what the tests after it say
 abbrev pub require : Bool → Refusal → Option Refusal → Option Refusal

@@ -6,4 +6,5 @@ pub mod Exactness
 pub mod Packing
 pub mod Images
 pub mod Serving
+pub mod Walks
 pub mod ServedWords

@@ -6,6 +6,7 @@ ghost use Rattle.image.specs.Layout.{count_of, word_of};
 use crate::layout::{BLOCK_WORDS, CHECK_WORD, PAYLOAD_WORDS, count_of};
 
 /// The words between a block's head and its check word, of which the first `count` belong to the image.
+// An array and a count, since an image is kept over blocks, each of one size.
 #[derive(Drop)]
 pub struct Block {
     words: [u32; PAYLOAD_WORDS],
@@ -30,10 +31,6 @@ impl Block {
     pub(crate) fn word(&self, offset: usize) -> Option<u32>
         ensures { result ≡ word_of (take self.now.count self.now.words) offset }
     {
-        if offset < self.count as usize {
-            Some(self.words[offset])
-        } else {
-            None
-        }
+        self.words[..usize::from(self.count)].get(offset).copied()
     }
 }

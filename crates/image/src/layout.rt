@@ -1,6 +1,8 @@
 // Where the parts of an image stand in its bytes.
-ghost use Rattle.std.specs.Prelude.{◌≡◌, ◌+◌, ◌*◌, ◌≤◌, length};
-ghost use Rattle.image.specs.Layout.{block_words, count_of, place_of, word_at};
+ghost use Rattle.std.specs.Prelude.{◌≡◌};
+ghost use Rattle.image.specs.Layout.{block_words, count_of, place_of};
+
+use std::array;
 
 pub const MOST_BLOCKS: usize = 64;
 
@@ -12,30 +14,12 @@ pub const CHECK_WORD: usize = 127;
 /// The words of a block between its first and its check word.
 pub const PAYLOAD_WORDS: usize = 126;
 
-fn word_at(bytes: &[u8], index: usize) -> u32
-    requires { 4 * index + 4 ≤ length bytes.now }
-    ensures { result ≡ word_at bytes.now index }
+/// All words of a block, each of four bytes with the lowest first.
+pub fn block_words(block: &[u8; BLOCK_BYTES]) -> [u32; BLOCK_WORDS]
+    ensures { result ≡ block_words block.now 0 }
 {
-    let start = 4 * index;
-    u32::from_le_bytes([
-        bytes[start],
-        bytes[start + 1],
-        bytes[start + 2],
-        bytes[start + 3],
-    ])
-}
-
-/// All words of the block at `place`.
-pub fn block_words(bytes: &[u8], place: u16) -> [u32; BLOCK_WORDS]
-    requires { 512 * place + 512 ≤ length bytes.now }
-    ensures { result ≡ block_words bytes.now place }
-{
-    let first = BLOCK_WORDS * place as usize;
-    let mut words = [0; BLOCK_WORDS];
-    for k in 0..BLOCK_WORDS {
-        words[k] = word_at(bytes, first + k);
-    }
-    words
+    let (words, _) = block.as_chunks();
+    array::from_fn(|k| u32::from_le_bytes(words[k]))
 }
 
 /// The place that a block gives itself, in the low half of its first word.

@@ -7,8 +7,13 @@ mod image;
 mod layout;
 mod refusal;
 mod store;
+mod sum;
 mod text;
+mod words;
 
 pub use image::Image;
+pub use layout::PAYLOAD_WORDS;
 pub use refusal::{OpenError, Refusal};
 pub use store::ImageStore;
+pub use sum::{RIGHT_SUM, sum_of};
+pub use words::Words;

@@ -1,12 +1,12 @@
 // Why bytes are not opened: what is wrong with them, or that memory ran out.
 ghost use Rattle.std.specs.Prelude.{◌≡◌};
-ghost use Rattle.image.specs.declared.refusal.OpenError.TheVariants.{OutOfMemory};
+ghost use Rattle.image.specs.declared.refusal.OpenError.TheVariants.{OutOfMemory, Refused};
 ghost use Rattle.image.specs.Refusals.{refusal_number, refusal_place};
 
 use std::alloc::AllocError;
 
 /// The first test that the bytes fail. A fault inside a block names the block by its place, counted from 0.
-#[derive(Clone, Copy, PartialEq, Debug)]
+#[derive(Clone, Copy, PartialEq, Eq, Debug)]
 pub enum Refusal {
     Length,
     Check(u16),
@@ -20,6 +20,7 @@ impl Refusal {
     pub fn number(&self) -> u8
         ensures { result ≡ refusal_number self.now }
     {
+        // Variants that carry a place have no discriminants.
         match self {
             Refusal::Length => 1,
             Refusal::Check(_) => 2,
@@ -35,19 +36,28 @@ impl Refusal {
     {
         match self {
             Refusal::Length => 0,
-            Refusal::Check(place) => *place,
-            Refusal::Place(place) => *place,
-            Refusal::Count(place) => *place,
-            Refusal::Filler(place) => *place,
+            Refusal::Check(place)
+            | Refusal::Place(place)
+            | Refusal::Count(place)
+            | Refusal::Filler(place) => *place,
         }
     }
 }
 
 /// Memory can run out only for bytes that were found sound.
-#[derive(Drop, Debug)]
+#[derive(Clone, Copy, PartialEq, Eq, Debug)]
 pub enum OpenError {
     Refused(Refusal),
     OutOfMemory,
+}
+
+/// What `?` makes of a refusal.
+impl From<Refusal> for OpenError {
+    ghost from_gives = { λ refusal r. r ≡ Refused refusal };
+
+    fn from(refusal: Refusal) -> OpenError {
+        OpenError::Refused(refusal)
+    }
 }
 
 /// What `?` makes of want of memory.

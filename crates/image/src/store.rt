@@ -6,7 +6,7 @@ ghost use Rattle.image.specs.Serving.{served, nowhere};
 ghost use Rattle.image.specs.ServedWords.{served_is_a_word};
 
 use crate::image::Image;
-use memory::fault::{Cause, Fault};
+use memory::fault::{Cause, Fault, reached};
 use memory::store::{Memory, Store};
 
 /// Serves the words of an image under one tag. An image that was never opened maps no address.
@@ -23,16 +23,6 @@ impl<'a> ImageStore<'a> {
     {
         ImageStore { image, tag }
     }
-
-    fn fault(&self, cause: Cause, address: u32) -> Fault
-        ensures { result ≡ record { cause = cause; address = address; tag = self.now.tag } }
-    {
-        Fault {
-            cause,
-            address,
-            tag: self.tag,
-        }
-    }
 }
 
 impl<'a> Store for ImageStore<'a> {
@@ -43,13 +33,8 @@ impl<'a> Store for ImageStore<'a> {
     ghost only_words = { λ s. served_is_a_word s.image.now };
 
     fn read(&self, address: u32) -> Result<u32, Fault> {
-        if address % 4 != 0 {
-            return Err(self.fault(Cause::Unaligned, address));
-        }
-        match self.image.word((address / 4) as usize) {
-            Some(word) => Ok(word),
-            None => Err(self.fault(Cause::Unmapped, address)),
-        }
+        let word = self.image.word((address / 4) as usize);
+        reached(word, address, self.tag)
     }
 }
 
@@ -58,6 +43,10 @@ impl<'a> Memory for ImageStore<'a> {
 
     fn write(&mut self, address: u32, _word: u32) -> Result<(), Fault> {
         self.read(address)?;
-        Err(self.fault(Cause::ReadOnly, address))
+        Err(Fault {
+            cause: Cause::ReadOnly,
+            address,
+            tag: self.tag,
+        })
     }
 }

@@ -1,12 +1,13 @@
-// A refusal as the programs print it: the word `image`, the number and the block's place.
-ghost use Rattle.std.specs.Prelude.{◌++◌, Some, codes, decimal};
-ghost use Rattle.image.specs.Refusals.{refusal_number, refusal_place};
+// A refusal as the programs print it: the word `image`, the number and the block's place. Want of memory is said in words.
+ghost use Rattle.std.specs.Prelude.{Some};
+ghost use Rattle.image.specs.Refusals.{error_text, refusal_text};
 
-use crate::refusal::Refusal;
+use crate::refusal::{OpenError, Refusal};
+use std::error::Error;
 use std::fmt;
 
 impl fmt::Display for Refusal {
-    ghost output = { λ r. Some (codes "image " ++ (decimal (refusal_number r) ++ (codes " " ++ decimal (refusal_place r)))) };
+    ghost output = { λ refusal. Some (refusal_text refusal) };
 
     fn fmt<W: fmt::Write>(&self, f: &mut fmt::Formatter<W>) -> fmt::Result {
         let number = self.number();
@@ -14,3 +15,16 @@ impl fmt::Display for Refusal {
         write!(f, "image {number} {place}")
     }
 }
+
+impl fmt::Display for OpenError {
+    ghost output = { λ error. Some (error_text error) };
+
+    fn fmt<W: fmt::Write>(&self, f: &mut fmt::Formatter<W>) -> fmt::Result {
+        match self {
+            OpenError::Refused(refusal) => write!(f, "{refusal}"),
+            OpenError::OutOfMemory => write!(f, "no memory for the image"),
+        }
+    }
+}
+
+impl Error for OpenError {}

@@ -3,9 +3,8 @@ use Rattle.std.specs.Prelude.{ℕ, ◌+◌, ◌-◌, ◌*◌, ◌/◌, ◌^◌, 
 use Rattle.std.specs.Option.{option_map}
 use Rattle.memory.specs.declared.bank.BankRefusal.{BankRefusal}
 use Rattle.memory.specs.declared.bank.BankRefusal.TheVariants.{Count, Base, End}
-use Rattle.memory.specs.declared.fault.Cause.TheVariants.{Unaligned}
 use Rattle.memory.specs.declared.fault.Fault.{Fault}
-use Rattle.memory.specs.Meaning.{Words, aligned, answer, refuse, one_tag}
+use Rattle.memory.specs.Meaning.{Words, aligned, one_tag, reached}
 
 -- the number by which users know the refusal of a bank's figures
 abbrev pub refusal_number : BankRefusal → ℕ
@@ -29,7 +28,7 @@ bank_words base words a = option_map (λ i. slice_index words i) (index_of base 
 
 -- where the word at the address a lies, or why it cannot be reached
 abbrev pub placed : ℕ → ℕ → ℕ → ℕ → Result ℕ Fault
-placed base count tag a = cond (aligned a) (answer (index_of base count a) (one_tag tag) a) (refuse Unaligned (one_tag tag) a)
+placed base count tag a = reached (index_of base count a) (one_tag tag) a
 
 -- the lent words once w is written at the address a: one is replaced if a is served, none otherwise
 abbrev pub replaced : List ℕ → Option ℕ → ℕ → List ℕ

@@ -28,14 +28,18 @@ aligned a = a % 4 == 0
 abbrev pub refuse : {X : Type 0} → Cause → Tags → ℕ → Result X Fault
 refuse why tags a = Err (record { cause = why; address = a; tag = tags a })
 
--- a mapped word is answered, and any other address refused as unmapped
-abbrev pub answer : Option ℕ → Tags → ℕ → Result ℕ Fault
+-- what is mapped is answered, and any other address refused as unmapped
+abbrev pub answer : {X : Type 0} → Option X → Tags → ℕ → Result X Fault
 answer (Some w) tags a = Ok w
 answer None tags a = refuse Unmapped tags a
 
+-- what is found at the address a, or why it cannot be reached
+abbrev pub reached : {X : Type 0} → Option X → Tags → ℕ → Result X Fault
+reached found tags a = cond (aligned a) (answer found tags a) (refuse Unaligned tags a)
+
 -- what a read at the address a answers
 abbrev pub reading : Words → Tags → ℕ → Result ℕ Fault
-reading words tags a = cond (aligned a) (answer (words a) tags a) (refuse Unaligned tags a)
+reading words tags a = reached (words a) tags a
 
 abbrev pub permit : Option ℕ → Tags → Bool → ℕ → Result (Unit {0}) Fault
 permit (Some w) tags may a = cond may (Ok tt) (refuse ReadOnly tags a)

@@ -4,7 +4,7 @@ ghost use Rattle.memory.specs.Meaning.{writing, put, one_tag};
 ghost use Rattle.memory.specs.Bank.{checked, index_of, placed, bank_words, stored, everywhere, refusal_number};
 ghost use Rattle.memory.specs.OnlyWords.{bank_is_a_word};
 
-use super::fault::{Cause, Fault};
+use super::fault::{Fault, reached};
 use super::store::{Memory, Store};
 
 /// The most words that one bank serves.
@@ -26,10 +26,9 @@ impl BankRefusal {
     pub fn number(self) -> u8
         ensures { result ≡ refusal_number self }
     {
+        // One number for all three, which discriminants cannot say.
         match self {
-            BankRefusal::Count => 14,
-            BankRefusal::Base => 14,
-            BankRefusal::End => 14,
+            BankRefusal::Count | BankRefusal::Base | BankRefusal::End => 14,
         }
     }
 }
@@ -44,7 +43,7 @@ pub fn check(base: u32, count: usize) -> Result<(), BankRefusal>
     if base % 4 != 0 {
         return Err(BankRefusal::Base);
     }
-    if base as u64 + 4 * count as u64 > 0x1_0000_0000 {
+    if u64::from(base) + 4 * count as u64 > 0x1_0000_0000 {
         return Err(BankRefusal::End);
     }
     Ok(())
@@ -59,16 +58,14 @@ pub struct Bank<'a> {
     tag: u8,
 }
 
-// The place of the word at a multiple of four, in a bank of that base and count.
+// The place of the word at an address, in a bank of that base and count.
 fn index_of(base: u32, count: usize, address: u32) -> Option<usize>
-    requires { address % 4 ≡ 0 }
     ensures { result ≡ index_of base count address }
 {
-    if check(base, count).is_err() || address < base {
-        return None;
-    }
-    let index = ((address - base) / 4) as usize;
-    if index < count { Some(index) } else { None }
+    check(base, count).ok()?;
+    let offset = address.checked_sub(base)?;
+    let index = (offset / 4) as usize;
+    (offset % 4 == 0 && index < count).then_some(index)
 }
 
 impl<'a> Bank<'a> {
@@ -86,23 +83,8 @@ impl<'a> Bank<'a> {
     fn place(&self, address: u32) -> Result<usize, Fault>
         ensures { result ≡ placed self.now.base (length self.now.words.now) self.now.tag address }
     {
-        if address % 4 != 0 {
-            return Err(self.fault(Cause::Unaligned, address));
-        }
-        match index_of(self.base, self.words.len(), address) {
-            Some(index) => Ok(index),
-            None => Err(self.fault(Cause::Unmapped, address)),
-        }
-    }
-
-    fn fault(&self, cause: Cause, address: u32) -> Fault
-        ensures { result ≡ record { cause = cause; address = address; tag = self.now.tag } }
-    {
-        Fault {
-            cause,
-            address,
-            tag: self.tag,
-        }
+        let index = index_of(self.base, self.words.len(), address);
+        reached(index, address, self.tag)
     }
 }
 

@@ -12,12 +12,12 @@ pub trait Store {
     /// The tag of an address, mapped or not.
     ghost tag_at: { Self → ℕ → ℕ };
 
-    /// Only multiples of four below 2^32 are mapped.
-    ghost only_words: { (m : Self) (a : ℕ) → is_some (word_at m a) ≡ true → WordAddress a };
-
     /// The word at an address, or the fault: no multiple of four, then nothing mapped.
     fn read(&self, address: u32) -> Result<u32, Fault>
         ensures { result ≡ reading (word_at self.now) (tag_at self.now) address };
+
+    /// Only multiples of four below 2^32 are mapped.
+    ghost only_words: { (m : Self) (a : ℕ) → is_some (word_at m a) ≡ true → WordAddress a };
 }
 
 /// A store whose words can be changed where it is writable.

@@ -2,8 +2,7 @@
 // standard error which line is wrong.
 #![tactic(auto)]
 
-use anyhow::anyhow;
-use packing::TextError;
+use anyhow::ensure;
 use packing::pack::pack;
 use packing::text::words_of;
 use std::io::{Read, Write};
@@ -17,30 +16,19 @@ fn read_text(rt: &HostRuntime) -> anyhow::Result<Vec<u8>> {
     rt.stdin()
         .take(MOST_BYTES as u64 + 1)
         .read_to_end(&mut text)?;
-    if text.len() > MOST_BYTES {
-        return Err(anyhow!("more than 1048576 bytes of text"));
-    }
+    ensure!(
+        text.len() <= MOST_BYTES,
+        "more than {MOST_BYTES} bytes of text"
+    );
     Ok(text)
 }
 
-fn read_words(rt: &HostRuntime) -> anyhow::Result<Vec<u32>> {
-    let text = read_text(rt)?;
-    match words_of(rt.alloc(), text.as_slice()) {
-        Ok(words) => Ok(words),
-        Err(TextError::Fault(fault)) => Err(anyhow!(format!(in rt.alloc(); "{fault}")?)),
-        Err(TextError::OutOfMemory) => Err(anyhow!("no memory")),
-    }
-}
-
 fn write_image(rt: &HostRuntime) -> anyhow::Result<()> {
-    let words = read_words(rt)?;
-    match pack(rt.alloc(), words.as_slice()) {
-        Ok(bytes) => {
-            rt.stdout().write_all(bytes.as_slice())?;
-            Ok(())
-        }
-        Err(error) => Err(anyhow!(format!(in rt.alloc(); "{error}")?)),
-    }
+    let text = read_text(rt)?;
+    let words = words_of(rt.alloc(), text.as_slice())?;
+    let image = pack(rt.alloc(), words.as_slice())?;
+    rt.stdout().write_all(image.as_slice())?;
+    Ok(())
 }
 
 // The error is one line on standard error; a returned `Err` would be printed once more.

@@ -1,10 +1,11 @@
 -- Words written as bytes are read back.
-use Rattle.std.proofs.Common.{◌≡◌, ℕ, zero, suc, ◌+◌, ◌-◌, ◌*◌, ◌/◌, ◌%◌, ◌^◌, ◌<◌, ◌≤◌, List, [], ◌∷◌, ◌++◌, map, length, get_or, sym, refl, ap, ◌∙◌, zero-add, arith}
+use Rattle.std.proofs.Common.{◌≡◌, ℕ, zero, suc, ◌+◌, ◌-◌, ◌*◌, ◌/◌, ◌%◌, ◌^◌, ◌<◌, ◌≤◌, List, [], ◌∷◌, ◌++◌, length, get_or, sym, refl, ap, ◌∙◌, arith}
 use native.Mathlib.Nat.{div-div-eq-div-mul}
-use Rattle.std.proofs.lemmas.List.FromFn.{fill_by_all, get_or-map-range_with_len, length-map-range_with_len}
+use Rattle.std.proofs.lemmas.List.FromFn.{fill_by_all}
 use Rattle.std.proofs.lemmas.List.{get_or_append_left, get_or-append_right}
-use Rattle.std.specs.List.{range_with_len, flat_map, AllByRecursion}
+use Rattle.std.specs.List.{flat_map, AllByRecursion}
 use Rattle.image.specs.Layout.{word_at, block_words}
+use Rattle.image.proofs.Chunks.{same_counted}
 use Rattle.packing.specs.Blocks.{little_endian}
 
 -- a word fits 32 bits
@@ -54,11 +55,6 @@ word_back (word ∷ words) zero small inside = word_again word small.0
 word_back (word ∷ words) (suc i) small inside =
     let front : suc i ≡ 1 + i = omega arith in
     rw front (word_behind (little_endian word) (flat_map little_endian words) 1 i refl ∙ word_back words i small.1 (omega arith))
-
--- two lists made from functions of the index
-same_counted : (f g : ℕ → ℕ) (n : ℕ) → ((k : ℕ) → k < n → f k ≡ g k) → map f (range_with_len 0 n) ≡ map g (range_with_len 0 n)
-same_counted f g n same =
-    fill_by_all g (map f (range_with_len 0 n)) n 0 (length-map-range_with_len f 0 n) (λ k below. get_or-map-range_with_len f 0 n k k 0 below (zero-add k) ∙ same k below)
 
 -- a block stays what it is when bytes follow it
 pub block_before : (xs ys : List ℕ) (i : ℕ) → 512 * i + 512 ≤ length xs → block_words (xs ++ ys) i ≡ block_words xs i

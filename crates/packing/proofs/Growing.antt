@@ -1,8 +1,8 @@
 -- The loop that puts block behind block, and what it has made at its end.
-use Rattle.std.proofs.Common.{◌≡◌, ℕ, zero, suc, ◌+◌, ◌-◌, ◌*◌, ◌^◌, ◌<◌, ◌≤◌, min, List, [], ◌++◌, map, length, get_or, take, drop, sym, refl, ap, ◌∙◌, subst, ⊎_elim, arith, take-add}
+use Rattle.std.proofs.Common.{◌≡◌, ℕ, zero, suc, ◌+◌, ◌-◌, ◌*◌, ◌^◌, ◌<◌, ◌≤◌, min, List, [], ◌++◌, map, length, get_or, take, drop, append-nil, sym, refl, ap, ◌∙◌, subst, ⊎_elim, arith, take-add}
 use Rattle.std.proofs.lemmas.List.FromFn.{map-range_with_len_more}
 use Rattle.std.proofs.ByRecursion.{All-drop, All-from_get_or, All-take}
-use Rattle.std.proofs.lemmas.List.{flat_map_more, length-append, length-drop, length-take, take_all}
+use Rattle.std.proofs.lemmas.List.{drop_all, drop_at, drop-drop, flat_map_more, length-append, length-drop, length-take, take_all, take_at}
 use Rattle.std.proofs.lemmas.Bool.{cases_lt}
 use Rattle.std.specs.List.{range_with_len, flat_map}
 use Rattle.image.specs.Formats.{Format, Sound}
@@ -17,6 +17,12 @@ use Rattle.packing.proofs.OneBlock.{block_carries, block_count_lem, block_filler
 pub record Grown (words : List ℕ) (k : ℕ) (bytes : List ℕ) : Type 0 where
   pub many : length bytes ≡ 512 * k
   pub blocks : (i : ℕ) → i < k → block_words bytes i ≡ block_of i (part_of words i)
+
+-- the walk over the words in parts: what it has made of the first k, and what is left
+pub record Packing (words : List ℕ) (k : ℕ) (bytes rest : List ℕ) : Type 0 where
+  pub grown : Grown words k bytes
+  pub left : rest ≡ drop (126 * k) words
+  pub needed : 126 * k < length words + 126
 
 pub part_few : (words : List ℕ) (i : ℕ) → length (part_of words i) ≤ 126
 part_few words i = omega (arith, length-take 126 (drop (126 * i) words))
@@ -95,3 +101,51 @@ module _ (words : List ℕ) (n : ℕ) (bytes : List ℕ) (grown : Grown words n 
         carries = ap (λ m. flat_map carried (map (block_words bytes) (range_with_len 0 m))) count ∙ carried_by n (omega arith) ∙ take_all (126 * n) words room;
         opens = (refused_exactly bytes).all_in_format format;
       }
+
+-- the front of a list is cut off: 126 words, or all
+part_front : (rest part more : List ℕ) → rest ≡ part ++ more → length part ≡ min 126 (length rest) → (part ≡ take 126 rest) × (more ≡ drop 126 rest)
+part_front rest part more cut size =
+    let long = ap length cut ∙ length-append part more in
+    ⊎_elim
+    (λ (short : length rest < 126).
+    let none : more ≡ [] = sym (take_all 0 more (omega arith)) in
+    let whole : rest ≡ part = cut ∙ ap (λ (m : List ℕ). part ++ m) none ∙ append-nil part in
+    (sym whole ∙ sym (take_all 126 rest (omega arith)), none ∙ sym (drop_all 126 rest (omega arith))))
+    (λ (full : 126 ≤ length rest).
+    let all : length part ≡ 126 = omega arith in
+    (sym (ap (take 126) cut ∙ take_at part more 126 all), sym (ap (drop 126) cut ∙ drop_at part more 126 all)))
+    (cases_lt (length rest) 126)
+
+-- one part more, which the block at `place` carries
+pub packing_more : (words : List ℕ) (k : ℕ) (bytes rest part more : List ℕ) {grown carried : List ℕ} {next place : ℕ} → ((i : ℕ) → get_or words i 0 < 2 ^ 32) → length words ≤ 8064 → Packing words k bytes rest → rest ≡ part ++ more → length part ≡ min 126 (length rest) → 0 < length rest → place ≡ k → carried ≡ part → next ≡ k + 1 → grown ≡ bytes ++ flat_map little_endian (block_of place carried) → Packing words next grown more
+packing_more words k bytes rest part more {grown} {next = next} small fits so_far cut size some is-place is-part is-next is =
+    let front = part_front rest part more cut size in
+    let part_is : part ≡ part_of words k = front.0 ∙ ap (take 126) so_far.left in
+    let left = ap length so_far.left ∙ length-drop (126 * k) words in
+    let put : grown ≡ bytes ++ flat_map little_endian (block_of k (part_of words k)) = cc in
+    let P : ℕ → Type 0 = λ n. Packing words n grown more in
+    let on : 126 * k + 126 ≡ 126 * (k + 1) = omega arith in
+    subst
+    P
+    (sym is-next)
+    (record {
+      grown = grown_more words k bytes grown small (omega (arith, so_far.needed)) so_far.grown put;
+      left = front.1 ∙ ap (drop 126) so_far.left ∙ drop-drop 126 (126 * k) words ∙ ap (λ n. drop n words) on;
+      needed = omega (arith, left);
+    })
+
+-- no part is left
+pub packing_all : (words : List ℕ) (k : ℕ) (bytes rest : List ℕ) → Packing words k bytes rest → length rest ≡ 0 → 1 ≤ length words → length words ≤ 8064 → ImageOf words bytes
+packing_all words k bytes rest made none some fits =
+    let left = ap length made.left ∙ length-drop (126 * k) words in
+    let needed = made.needed in
+    image_of words k bytes made.grown (omega arith) (omega arith) (omega arith) (omega arith)
+
+-- at the start no part is packed
+pub packing_none : (words : List ℕ) {bytes rest : List ℕ} {k : ℕ} → bytes ≡ [] → rest ≡ words → k ≡ 0 → Packing words k bytes rest
+packing_none words {bytes} {rest} {k} none all start =
+    let P : ℕ → Type 0 = λ n. Packing words n bytes rest in
+    subst
+    P
+    (sym start)
+    (record { grown = record { many = omega (arith, ap length none); blocks = λ i below. absurd (omega arith) }; left = all; needed = omega arith })

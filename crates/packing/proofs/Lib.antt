@@ -1,7 +1,6 @@
-pub mod Steps
 pub mod Bytes
 pub mod OneBlock
 pub mod Growing
-pub mod Digits
 pub mod TextSteps
 pub mod ReadBack
+pub mod EightDigits

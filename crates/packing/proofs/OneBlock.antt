@@ -1,17 +1,15 @@
 -- A block is in the format, and carries its words.
-use Rattle.std.proofs.Common.{◌≡◌, ℕ, zero, suc, ◌+◌, ◌-◌, ◌<◌, ◌≤◌, List, [], ◌∷◌, ◌++◌, length, take, drop, replicate, sum, sym, refl, ap, ◌∙◌, subst, append_assoc, arith}
+use Rattle.std.proofs.Common.{◌≡◌, ℕ, zero, suc, ◌+◌, ◌-◌, ◌<◌, ◌≤◌, List, [], ◌∷◌, ◌++◌, length, take, drop, replicate, sym, refl, ap, ◌∙◌, subst, append_assoc, arith}
 use Rattle.std.proofs.ByRecursion.{All-append}
 use Rattle.std.proofs.lemmas.List.{drop_at, drop-replicate, length-append, length-replicate, take_all, take_at}
+use Rattle.std.proofs.lemmas.Grind.{flat_map-append}
+use Rattle.std.proofs.lemmas.List.Folds.{sum_by-replicate}
 use Rattle.std.proofs.lemmas.List.Sums.{sum_by-append, sum_by-cons}
 use Rattle.std.specs.List.{flat_map, AllByRecursion}
 use Rattle.image.specs.Formats.{FillerRight, PlaceRight, SumRight}
 use Rattle.image.specs.Layout.{carried, count_of, filler}
 use Rattle.packing.specs.Blocks.{block_of, check_word, filler_for, head_of, little_endian}
 use Rattle.packing.proofs.Bytes.{Small}
-
-sum_zeros : (n : ℕ) → sum (replicate n 0) ≡ 0
-sum_zeros zero = refl
-sum_zeros (suc n) = sum_by-cons (λ x. x) 0 (replicate n 0) ∙ ap (λ s. 0 + s) (sum_zeros n)
 
 all_zeros : (P : ℕ → Type 0) (n : ℕ) → P 0 → AllByRecursion P (replicate n 0)
 all_zeros P zero h = tt
@@ -44,7 +42,7 @@ module _ (place : ℕ) (words : List ℕ) (low : place < 65536) (few : length wo
         sum_by-cons (λ x. x) (head_of place words) (words ++ (filler_for words ++ check_word place words ∷ [])),
         sum_by-append (λ x. x) words (filler_for words ++ check_word place words ∷ []),
         sum_by-append (λ x. x) (filler_for words) (check_word place words ∷ []),
-        sum_zeros (126 - length words),
+        sum_by-replicate (λ x. x) (126 - length words) 0,
       )
 
   pub block_carries : carried (block_of place words) ≡ words
@@ -74,12 +72,6 @@ module _ (place : ℕ) (words : List ℕ) (low : place < 65536) (few : length wo
     All-append Small words _ small (All-append Small (filler_for words) _ (all_zeros Small _ (omega arith)) (omega arith, tt)),
   )
 
-bytes_both : (xs ys : List ℕ) → flat_map little_endian (xs ++ ys) ≡ flat_map little_endian xs ++ flat_map little_endian ys
-bytes_both [] ys = refl
-bytes_both (x ∷ xs) ys =
-    ap (λ (l : List ℕ). little_endian x ++ l) (bytes_both xs ys)
-    ∙ sym (append_assoc (little_endian x) (flat_map little_endian xs) (flat_map little_endian ys))
-
 regroup : (a b c d e : List ℕ) → (((a ++ b) ++ c) ++ d) ++ e ≡ a ++ (b ++ (c ++ (d ++ e)))
 regroup a b c d e = simp append_assoc
 
@@ -91,7 +83,7 @@ block_bytes_lem place words bytes {head} {check} {zeros} {b4 = b4} e1 e2 e3 e4 i
     let all : b4 ≡ bytes ++ (J (head ∷ []) ++ (J words ++ (J zeros ++ J (check ∷ [])))) =
     let group = regroup bytes (J (head ∷ [])) (J words) (J zeros) (J (check ∷ [])) in cc in
     let back : J (words ++ (zeros ++ check ∷ [])) ≡ J words ++ (J zeros ++ J (check ∷ [])) =
-    bytes_both words (zeros ++ check ∷ []) ∙ ap (λ (l : List ℕ). J words ++ l) (bytes_both zeros (check ∷ [])) in
+    flat_map-append little_endian words (zeros ++ check ∷ []) ∙ ap (λ (l : List ℕ). J words ++ l) (flat_map-append little_endian zeros (check ∷ [])) in
     let block : block_of place words ≡ head ∷ (words ++ (zeros ++ check ∷ [])) = cc in
     all ∙ ap (λ (l : List ℕ). bytes ++ (little_endian head ++ l)) (sym back) ∙ ap (λ (l : List ℕ). bytes ++ J l) (sym block)
 

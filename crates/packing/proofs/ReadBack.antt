@@ -8,12 +8,16 @@ use Rattle.packing.specs.declared.line.Kind.TheVariants.{Digit}
 use Rattle.packing.specs.declared.line.Place.{Place}
 use Rattle.packing.specs.declared.line.Place.TheVariants.{Before, Within}
 use Rattle.packing.specs.declared.reading.Reading.{Reading}
+use Rattle.packing.specs.Digits.{Written}
 use Rattle.packing.specs.Lines.{kind_of}
 use Rattle.packing.specs.TextLaws.{Examples, ReadBack, digit_code, digits_of, line_of}
 use Rattle.packing.specs.Texts.{read_on}
 
 abbrev at : ℕ → Place → Reading
 at ended place = record { ended = ended; place = place }
+
+abbrev written : ℕ → ℕ → Written
+written value count = record { word = value; digits = count }
 
 digit_kind : (d : ℕ) → d < 16 → kind_of (digit_code d) ≡ Digit d
 digit_kind d small = grind (arith, nat_tests)
@@ -22,18 +26,18 @@ digit_no_end : (d : ℕ) → d < 16 → eqb (digit_code d) 10 ≡ false
 digit_no_end d small = grind (arith, nat_tests)
 
 -- one digit more of a word that has begun, and the first
-digit_on : (words : List ℕ) (ended value count d : ℕ) (rest : List ℕ) → count < 8 → d < 16 → read_on words (at ended (Within value count)) (digit_code d ∷ rest) ≡ read_on words (at ended (Within (value * 16 + d) (count + 1))) rest
+digit_on : (words : List ℕ) (ended value count d : ℕ) (rest : List ℕ) → count < 8 → d < 16 → read_on words (at ended (Within (written value count))) (digit_code d ∷ rest) ≡ read_on words (at ended (Within (written (value * 16 + d) (count + 1)))) rest
 digit_on words ended value count d rest few small =
     rw (digit_no_end d small, digit_kind d small, lt-ltb count 8 few, append-nil words)
 
-digit_first : (words : List ℕ) (ended d : ℕ) (rest : List ℕ) → d < 16 → read_on words (at ended Before) (digit_code d ∷ rest) ≡ read_on words (at ended (Within d 1)) rest
+digit_first : (words : List ℕ) (ended d : ℕ) (rest : List ℕ) → d < 16 → read_on words (at ended Before) (digit_code d ∷ rest) ≡ read_on words (at ended (Within (written d 1))) rest
 digit_first words ended d rest small = rw (digit_no_end d small, digit_kind d small, append-nil words)
 
 -- the rest of a word's digits, and the line's end
 abbrev value_on : ℕ → List ℕ → ℕ
 value_on value digits = fold (λ v d. v * 16 + d) value digits
 
-digits_on : (words : List ℕ) (ended value count : ℕ) (digits rest : List ℕ) → count + length digits ≤ 8 → AllByRecursion (λ d. d < 16) digits → read_on words (at ended (Within value count)) (map digit_code digits ++ 10 ∷ rest) ≡ read_on (words ++ value_on value digits ∷ []) (at (ended + 1) Before) rest
+digits_on : (words : List ℕ) (ended value count : ℕ) (digits rest : List ℕ) → count + length digits ≤ 8 → AllByRecursion (λ d. d < 16) digits → read_on words (at ended (Within (written value count))) (map digit_code digits ++ 10 ∷ rest) ≡ read_on (words ++ value_on value digits ∷ []) (at (ended + 1) Before) rest
 digits_on words ended value count [] rest few small = refl
 digits_on words ended value count (d ∷ digits) rest few small =
     digit_on words ended value count d (map digit_code digits ++ 10 ∷ rest) (omega arith) small.0

@@ -1,5 +1,6 @@
 pub mod Blocks
 pub mod Packed
+pub mod Digits
 pub mod Lines
 pub mod Texts
 pub mod TextLaws

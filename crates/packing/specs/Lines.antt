@@ -1,5 +1,6 @@
 -- A line of the text: which bytes may follow which, and the word that it has.
-use Rattle.std.specs.Prelude.{ℕ, ◌+◌, ◌-◌, ◌*◌, ◌^◌, ◌<◌, Bool, cond, ◌&&◌, ◌||◌, List, [], ◌∷◌, Some, None, Ok, Err, Result, ◌==◌, nat_le, nat_lt}
+use Rattle.std.specs.Prelude.{ℕ, ◌+◌, ◌-◌, Bool, cond, ◌&&◌, ◌||◌, List, [], ◌∷◌, Some, None, Option, Ok, Err, Result, ◌==◌, nat_le}
+use Rattle.packing.specs.Digits.{Written, more_digits}
 use Rattle.packing.specs.declared.error.Reason.{Reason}
 use Rattle.packing.specs.declared.error.Reason.TheVariants.{NotHex, TooLong, TwoWords}
 use Rattle.packing.specs.declared.line.Kind.{Kind}
@@ -20,16 +21,21 @@ kind_of byte =
     (cond (byte == 32 || (byte == 9 || byte == 13)) Blank
     (cond (byte == 35) Hash Other))))
 
+-- inside a word, unless there is no room for the digit
+abbrev pub on_within : Option Written → Result Place Reason
+on_within (Some spelled) = Ok (Within spelled)
+on_within None = Err TooLong
+
 -- where the byte after this one stands, if this one may stand here
 abbrev pub stepped : Place → Kind → Result Place Reason
-stepped Before (Digit digit) = Ok (Within digit 1)
+stepped Before (Digit digit) = Ok (Within (record { word = digit; digits = 1 }))
 stepped Before Blank = Ok Before
 stepped Before Hash = Ok (Comment None)
 stepped Before Other = Err NotHex
-stepped (Within word digits) (Digit digit) = cond (nat_lt digits 8) (Ok (Within (word * 16 + digit) (digits + 1))) (Err TooLong)
-stepped (Within word digits) Blank = Ok (Behind word)
-stepped (Within word digits) Hash = Ok (Comment (Some word))
-stepped (Within word digits) Other = Err NotHex
+stepped (Within spelled) (Digit digit) = on_within (more_digits spelled digit)
+stepped (Within spelled) Blank = Ok (Behind spelled.word)
+stepped (Within spelled) Hash = Ok (Comment (Some spelled.word))
+stepped (Within spelled) Other = Err NotHex
 stepped (Behind word) (Digit digit) = Err TwoWords
 stepped (Behind word) Blank = Ok (Behind word)
 stepped (Behind word) Hash = Ok (Comment (Some word))
@@ -39,20 +45,7 @@ stepped (Comment word) kind = Ok (Comment word)
 -- the word of a line that ends here, if it has one
 abbrev pub line_word : Place → List ℕ
 line_word Before = []
-line_word (Within word digits) = word ∷ []
+line_word (Within spelled) = spelled.word ∷ []
 line_word (Behind word) = word ∷ []
 line_word (Comment None) = []
 line_word (Comment (Some word)) = word ∷ []
-
--- so many digits make no larger number, and a digit is below 16
-abbrev pub PlaceFits : Place → Type 0
-PlaceFits Before = Unit {0}
-PlaceFits (Within word digits) = word < 16 ^ digits
-PlaceFits (Behind word) = Unit {0}
-PlaceFits (Comment word) = Unit {0}
-
-abbrev pub DigitFits : Kind → Type 0
-DigitFits (Digit digit) = digit < 16
-DigitFits Blank = Unit {0}
-DigitFits Hash = Unit {0}
-DigitFits Other = Unit {0}

@@ -1,50 +1,19 @@
 // The bytes of one block, put behind those of the blocks before it.
-ghost use Rattle.std.specs.Prelude.{◌≡◌, ◌%◌, ◌^◌, ◌≤◌, ◌++◌, length, replicate, sum, OnOk};
-ghost use Rattle.std.specs.List.{between, flat_map};
-ghost use Rattle.packing.specs.Blocks.{block_of, check_word, head_of, little_endian};
+ghost use Rattle.std.specs.Prelude.{◌≡◌, ◌≤◌, ◌++◌, length, OnOk};
+ghost use Rattle.std.specs.List.{flat_map};
+ghost use Rattle.packing.specs.Blocks.{block_of, check_word, filler_for, head_of, little_endian};
 
+use image::{PAYLOAD_WORDS, RIGHT_SUM, sum_of};
 use std::alloc::AllocError;
-
-/// How many words a block carries at most.
-pub const PAYLOAD_WORDS: usize = 126;
 
 const FILLER: [u32; PAYLOAD_WORDS] = [0; PAYLOAD_WORDS];
 
-// What the words of a block add up to, modulo 2^32.
-const RIGHT_SUM: u32 = 0xFFFF_FFFF;
-
-fn sum_of(words: &[u32]) -> u32
-    ensures { result ≡ sum words.now % 2 ^ 32 }
-{
-    let mut total = 0u32;
-    for word in words {
-        total = total.wrapping_add(*word);
-    }
-    total
-}
-
-// The first word of a block: its place, and how many words it carries.
-fn head_of(place: u16, words: &[u32]) -> u32
-    requires { length words.now ≤ 126 }
-    ensures { result ≡ head_of place words.now }
-{
-    place as u32 + words.len() as u32 * 65536
-}
-
-// The last word of a block, which makes up its sum.
-fn check_word(place: u16, words: &[u32]) -> u32
-    requires { length words.now ≤ 126 }
-    ensures { result ≡ check_word place words.now }
-{
-    RIGHT_SUM - head_of(place, words).wrapping_add(sum_of(words))
-}
-
-// The zeros that fill up a block of `count` words.
-fn filler(count: usize) -> &'static [u32]
-    requires { count ≤ 126 }
-    ensures { result.now ≡ between count 126 (replicate 126 0) }
-{
-    &FILLER[count..PAYLOAD_WORDS]
+/// The words that a block carries, and the block's place.
+#[derive(Clone, Copy)]
+pub struct Payload<'a> {
+    place: u16,
+    words: &'a [u32],
+    ghost few: { length words.now ≤ 126 },
 }
 
 fn push_words(bytes: &mut Vec<u8>, words: &[u32]) -> Result<(), AllocError>
@@ -56,14 +25,44 @@ fn push_words(bytes: &mut Vec<u8>, words: &[u32]) -> Result<(), AllocError>
     Ok(())
 }
 
-/// Adds the block at `place` that carries these words: place and count, the words, zeros and the check word.
-pub fn push_block(bytes: &mut Vec<u8>, place: u16, words: &[u32]) -> Result<(), AllocError>
-    requires { length words.now ≤ 126 }
-    ensures { OnOk result (bytes.new.items ≡ bytes.old.items ++ flat_map little_endian (block_of place words.now)) }
-{
-    push_words(bytes, &[head_of(place, words)])?;
-    push_words(bytes, words)?;
-    push_words(bytes, filler(words.len()))?;
-    push_words(bytes, &[check_word(place, words)])?;
-    Ok(())
+impl<'a> Payload<'a> {
+    pub fn new(place: u16, words: &'a [u32]) -> Payload<'a>
+        requires { length words.now ≤ 126 }
+        ensures place { result.place ≡ place }
+        ensures words { result.words.now ≡ words.now }
+    {
+        Payload { place, words }
+    }
+
+    // The first word of the block: its place, and how many words it carries.
+    fn head(&self) -> u32
+        ensures { result ≡ head_of self.now.place self.now.words.now }
+    {
+        u32::from(self.place) + self.words.len() as u32 * 65536
+    }
+
+    // The last word of the block, which makes up its sum.
+    fn check_word(&self) -> u32
+        ensures { result ≡ check_word self.now.place self.now.words.now }
+    {
+        RIGHT_SUM - self.head().wrapping_add(sum_of(self.words))
+    }
+
+    // The zeros that fill up the block.
+    fn filler(&self) -> &'static [u32]
+        ensures { result.now ≡ filler_for self.now.words.now }
+    {
+        &FILLER[self.words.len()..]
+    }
+
+    /// Adds the block: place and count, the words, zeros and the check word.
+    pub fn push_onto(&self, bytes: &mut Vec<u8>) -> Result<(), AllocError>
+        ensures { OnOk result (bytes.new.items ≡ bytes.old.items ++ flat_map little_endian (block_of self.now.place self.now.words.now)) }
+    {
+        push_words(bytes, &[self.head()])?;
+        push_words(bytes, self.words)?;
+        push_words(bytes, self.filler())?;
+        push_words(bytes, &[self.check_word()])?;
+        Ok(())
+    }
 }

@@ -2,6 +2,7 @@
 #![tactic(auto)]
 
 mod block;
+mod digits;
 mod error;
 mod line;
 mod message;

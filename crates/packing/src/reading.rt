@@ -1,7 +1,7 @@
 // How far a text has been read, byte by byte.
-ghost use Rattle.std.specs.Prelude.{◌≡◌, ◌+◌, ◌^◌, ◌<◌, ◌≤◌, IfOk};
+ghost use Rattle.std.specs.Prelude.{◌≡◌, ◌+◌, ◌^◌, ◌<◌, ◌≤◌, IfOk, IfErr};
 ghost use Rattle.std.specs.Option.{option_to_list};
-ghost use Rattle.packing.specs.Lines.{PlaceFits, line_word};
+ghost use Rattle.packing.specs.Lines.{line_word};
 ghost use Rattle.packing.specs.Texts.{advanced, ended_word};
 
 use crate::error::TextFault;
@@ -15,46 +15,35 @@ pub struct Reading {
 }
 
 impl Reading {
-    /// Takes in one byte, or says which line it is wrong in.
-    pub fn advance(self, byte: u8) -> Result<Reading, TextFault>
-        requires place_fits { PlaceFits self.place }
-        requires ended_bound { self.ended + 1 < 2 ^ 64 }
-        ensures next { result ≡ advanced self byte }
-        ensures fits { IfOk result (λ next. PlaceFits next.place) }
-        ensures lines { IfOk result (λ next. next.ended ≤ self.ended + 1) }
+    /// Takes in one byte. Answers the word of the line that it ends, if it ends one that has a word, or says which line
+    /// it is wrong in.
+    pub fn advance(&mut self, byte: u8) -> Result<Option<u32>, TextFault>
+        requires { self.old.ended + 1 < 2 ^ 64 }
+        ensures next { IfOk result (λ _. advanced self.old byte ≡ Ok self.new) }
+        ensures word { IfOk result (λ word. option_to_list word ≡ ended_word self.old byte) }
+        ensures fault { IfErr result (λ fault. advanced self.old byte ≡ Err fault) }
+        ensures lines { IfOk result (λ _. self.new.ended ≤ self.old.ended + 1) }
     {
-        let ended = self.ended;
         if byte == b'\n' {
-            return Ok(Reading {
-                ended: ended + 1,
-                place: Place::Before,
-            });
+            let word = self.word();
+            self.ended += 1;
+            self.place = Place::Before;
+            return Ok(word);
         }
-        match step(self.place, kind_of(byte)) {
-            Ok(place) => Ok(Reading { ended, place }),
-            Err(reason) => Err(TextFault {
-                line: ended + 1,
-                reason,
-            }),
-        }
-    }
-
-    /// The word of the line that this byte ends, if it ends one that has a word.
-    pub fn ended_word(self, byte: u8) -> Option<u32>
-        ensures { option_to_list result ≡ ended_word self byte }
-    {
-        if byte == b'\n' { self.word() } else { None }
+        let line = self.ended + 1;
+        self.place = step(&self.place, kind_of(byte)).map_err(|reason| TextFault { line, reason })?;
+        Ok(None)
     }
 
     /// The word of the line, if the text ends here.
-    pub fn word(self) -> Option<u32>
-        ensures { option_to_list result ≡ line_word self.place }
+    pub fn word(&self) -> Option<u32>
+        ensures { option_to_list result ≡ line_word self.now.place }
     {
-        match self.place {
+        match &self.place {
             Place::Before => None,
-            Place::Within(word, _) => Some(word),
-            Place::Behind(word) => Some(word),
-            Place::Comment(word) => word,
+            Place::Within(spelled) => Some(spelled.word()),
+            Place::Behind(word) => Some(*word),
+            Place::Comment(word) => *word,
         }
     }
 }

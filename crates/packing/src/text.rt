@@ -29,12 +29,7 @@ pub fn words_of(heap: Global, text: &[u8]) -> Result<Vec<u32>, TextError>
         place: Place::Before,
     };
     for byte in text {
-        let next = match reading.advance(*byte) {
-            Ok(next) => next,
-            Err(fault) => return Err(TextError::Fault(fault)),
-        };
-        keep(&mut words, reading.ended_word(*byte))?;
-        reading = next;
+        keep(&mut words, reading.advance(*byte)?)?;
     }
     keep(&mut words, reading.word())?;
     Ok(words)

@@ -8,9 +8,9 @@ ghost use Rattle.image.specs.Packing.{well_filled};
 ghost use Rattle.image.specs.FirstRefusal.{refusal_of};
 
 use crate::block::Block;
-use crate::faults::refusal_of;
+use crate::faults::check;
 use crate::image::Image;
-use crate::layout::{BLOCK_BYTES, block_words};
+use crate::layout::block_words;
 use crate::refusal::OpenError;
 use std::alloc::{AllocError, Global};
 
@@ -20,11 +20,10 @@ fn read_blocks(heap: Global, bytes: &[u8]) -> Result<Vec<Block>, AllocError>
     ensures filled { IfOk result (λ read. well_filled read.items ≡ true) }
     ensures words { IfOk result (λ read. flat_map words_in read.items ≡ bytes_words bytes.now) }
 {
-    let blocks = (bytes.len() / BLOCK_BYTES) as u16;
+    let (blocks, _) = bytes.as_chunks();
     let mut read = Vec::new(heap);
-    for place in 0..blocks {
-        let words = block_words(bytes, place);
-        read.push(Block::new(&words))?;
+    for block in blocks {
+        read.push(Block::new(&block_words(block)))?;
     }
     Ok(read)
 }
@@ -46,9 +45,7 @@ impl Image {
         ensures opened { OnOk result (Format bytes.now × (image_words self.new ≡ bytes_words bytes.now)) }
         ensures unchanged { OnErr result (self.new ≡ self.old) }
     {
-        if let Some(refusal) = refusal_of(bytes) {
-            return Err(OpenError::Refused(refusal));
-        }
+        check(bytes)?;
         self.blocks = read_blocks(heap, bytes)?;
         Ok(())
     }

@@ -2,20 +2,22 @@
 ghost use Rattle.std.specs.Prelude.{◌≡◌, ◌+◌, ◌-◌, ◌*◌, ◌%◌, ◌≤◌, length, None, vec_len, MatchOption, ◌==◌};
 ghost use Rattle.image.specs.Images.{image_words, words_in};
 ghost use Rattle.image.specs.Layout.{word_of};
+ghost use Rattle.image.specs.Walks.{words_left};
 
 use crate::block::Block;
 use crate::image::Image;
 use crate::layout::PAYLOAD_WORDS;
+use crate::words::Words;
 
 impl Image {
     /// How many words the image has.
     pub fn len(&self) -> usize
         ensures { result ≡ length (image_words self.now) }
     {
-        match self.last_block() {
-            Some(last) => (self.blocks.len() - 1) * PAYLOAD_WORDS + last.count as usize,
-            None => 0,
-        }
+        let Some(last) = self.last_block() else {
+            return 0;
+        };
+        (self.blocks.len() - 1) * PAYLOAD_WORDS + usize::from(last.count)
     }
 
     pub fn is_empty(&self) -> bool
@@ -28,9 +30,16 @@ impl Image {
     pub fn word(&self, index: usize) -> Option<u32>
         ensures { result ≡ word_of (image_words self.now) index }
     {
-        match self.block_of(index) {
-            Some(block) => block.word(index % PAYLOAD_WORDS),
-            None => None,
+        self.block_of(index)?.word(index % PAYLOAD_WORDS)
+    }
+
+    /// The words in order.
+    pub fn words(&self) -> Words<'_>
+        ensures { words_left result ≡ image_words self.now }
+    {
+        Words {
+            image: self,
+            next: 0,
         }
     }
 
@@ -45,11 +54,6 @@ impl Image {
     fn block_of(&self, index: usize) -> Option<&Block>
         ensures { MatchOption result (word_of (image_words self.now) index ≡ None) (λ block. word_of (image_words self.now) index ≡ word_of (words_in block.now) (index % 126)) }
     {
-        let place = index / PAYLOAD_WORDS;
-        if place < self.blocks.len() {
-            Some(&self.blocks[place])
-        } else {
-            None
-        }
+        self.blocks.get(index / PAYLOAD_WORDS)
     }
 }

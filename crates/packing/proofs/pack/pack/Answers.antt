@@ -1,45 +1,47 @@
-use Rattle.std.proofs.Common.{◌≡◌, ◌*◌, length, vec_items, sym, refl, ap, ◌∙◌, arith}
+use Rattle.std.proofs.Common.{length, vec_items, min, sym, ap, ◌∙◌, arith}
 use Rattle.std.proofs.lemmas.Bool.{eqb-false}
 use Rattle.std.proofs.lemmas.Bool.Decides.{nat_tests}
-use Rattle.packing.specs.Blocks.{part_of}
-use Rattle.packing.proofs.Growing.{grown_more, image_of, part_few}
-use Rattle.packing.proofs.Steps.{part_is}
+use Rattle.std.specs.Iterator.Adapters.{enumerate_count, enumerate_source}
+use Rattle.std.specs.Slice.Iter.{chunks_rest, chunks_size}
+use Rattle.packing.proofs.Growing.{packing_all, packing_more, packing_none}
 use Rattle.packing.proofs.pack.pack.Goals as goal
 
-part : (c : goal.After-part_of) → c.part_of.result.now ≡ part_of c.args.words.now c.loop-place.place
-part c = c.part_of.ensures ∙ part_is c.args.words.now (126 * c.loop-place.place) _ refl
-
-pub push_block-requires : goal.push_block-requires
-push_block-requires c =
-    omega (arith, ap length (part c), part_few c.args.words.now c.loop-place.place)
+pub loop-place-init : goal.loop-place-init
+loop-place-init c =
+    let walk = c.into_iter-place-iterator.ensures.into_iter_gives in
+    let cut = ap enumerate_source walk ∙ c.enumerate-place-items.ensures.source in (
+      packing_none c.args.words.now c.new-bytes.ensures.items (ap chunks_rest cut ∙ c.chunks.ensures.rest) (ap enumerate_count walk ∙ c.enumerate-place-items.ensures.count),
+      ap chunks_size cut ∙ c.chunks.ensures.size,
+    )
 
 pub loop-place-preserved : goal.loop-place-preserved
 loop-place-preserved c =
-    let put = c.in_ok-push_block.ensures in
-    let is = c.part_of.ensures ∙ part_is c.args.words.now (126 * c.loop-place.place) _ refl in
-    grown_more
-    c.args.words.now
-    c.loop-place.place
-    (vec_items c.loop-place.bytes)
-    (vec_items c.push_block.new.bytes)
-    (λ i. omega (arith, c.type_inv.words i))
-    (omega arith)
-    c.loop-place.invariant
-    (cc)
+    let step = c.in-Some.ensures.steps in
+    let chunk = step.0.1 in (
+      packing_more
+          c.args.words.now
+          (enumerate_count c.loop-place.place-iterator)
+          (vec_items c.loop-place.bytes)
+          (chunks_rest (enumerate_source c.loop-place.place-iterator))
+          c.in-Some.part.now
+          (chunks_rest (enumerate_source c.next.new.self))
+          (λ i. omega (arith, c.type_inv.words i))
+          (omega arith)
+          c.loop-place.invariant.0
+          chunk.0
+          (chunk.1 ∙ ap (λ n. min n (length (chunks_rest (enumerate_source c.loop-place.place-iterator)))) c.loop-place.invariant.1)
+          chunk.2
+          (c.new.ensures.place ∙ step.1)
+          c.new.ensures.words
+          step.2
+          c.in_ok-push_onto.ensures,
+      step.0.0 ∙ c.loop-place.invariant.1,
+    )
 
 pub returns : goal.returns
 returns c =
     let some = eqb-false (length c.args.words.now) 0 (sym c.is_empty.ensures ∙ c.if-is_empty.false) in
     record {
       refusal = grind (arith, nat_tests);
-      packed =
-          image_of
-          c.args.words.now
-          c.loop-place.place
-          (vec_items c.loop-place.bytes)
-          c.loop-place.invariant
-          (omega arith)
-          (omega arith)
-          (omega arith)
-          (omega arith);
+      packed = packing_all c.args.words.now _ (vec_items c.loop-place.bytes) _ c.loop-place.invariant.0 c.in-None.ensures.steps.0.1.0 (omega arith) (omega arith);
     }

@@ -1,5 +1,4 @@
 use Rattle.std.proofs.Common.{◌≡◌, ◌≤◌, drop, vec_items}
-use Rattle.packing.specs.Lines.{PlaceFits}
 use Rattle.packing.specs.Texts.{read_on, words_of}
 use Rattle.packing.proofs.text.words_of.Given as goal
 
@@ -7,5 +6,4 @@ use Rattle.packing.proofs.text.words_of.Given as goal
 abbrev pub invariant-loop-byte : goal.invariant-loop-byte
 invariant-loop-byte l =
     (read_on (vec_items l.words) l.reading (drop l.byte-index l.text) ≡ words_of l.text)
-    × PlaceFits l.reading.place
     × (l.reading.ended ≤ l.byte-index)

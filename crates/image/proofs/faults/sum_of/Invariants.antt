@@ -1,5 +1,0 @@
-use Rattle.std.proofs.Common.{◌≡◌, ◌%◌, ◌^◌, take, sum}
-use Rattle.image.proofs.faults.sum_of.Given as goal
-
-abbrev pub invariant-loop-word : goal.invariant-loop-word
-invariant-loop-word l = l.total ≡ sum (take l.word-index l.words) % 2 ^ 32
