@@ -7,8 +7,7 @@ use isa::Disassembly;
 use std::io::Write;
 
 fn print_words<W: Write>(out: &mut W, image: &Image) -> anyhow::Result<()> {
-    let words = (0..image.len()).filter_map(|index| image.word(index));
-    for (address, word) in (0..=u32::MAX).step_by(4).zip(words) {
+    for (address, word) in (0..=u32::MAX).step_by(4).zip(image.words()) {
         let text = Disassembly { address, word };
         writeln!(out, "{address:08x} {word:08x} {text}")?;
     }
