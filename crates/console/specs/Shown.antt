@@ -1,9 +1,9 @@
 -- How an image is shown.
-use Rattle.std.specs.Prelude.{◌≡◌, ℕ, List, ◌++◌, codes, decimal}
+use Rattle.std.specs.Prelude.{◌≡◌, ℕ, List, ◌++◌, codes}
 use Rattle.std.specs.Fn.{Once}
 use denote.Ref.{Bor, MutBor}
 use Rattle.image.specs.Images.{image_words}
-use Rattle.image.specs.Refusals.{refusal_number, refusal_place}
+use Rattle.image.specs.Refusals.{refusal_text}
 use Rattle.image.specs.declared.image.Image.{Image}
 use Rattle.image.specs.declared.refusal.Refusal.{Refusal}
 
@@ -19,5 +19,4 @@ pub record ShownBy {F W R : Type 0} (g : Once F (MutBor W × (Bor Image × Unit 
 
 -- the line of a refusal
 abbrev pub refusal_line : Refusal → List ℕ
-refusal_line refusal =
-    codes "image " ++ decimal (refusal_number refusal) ++ codes " " ++ decimal (refusal_place refusal) ++ codes "\n"
+refusal_line refusal = refusal_text refusal ++ codes "\n"

@@ -5,7 +5,6 @@ ghost use Rattle.image.specs.FirstRefusal.{refusal_of};
 ghost use Rattle.image.specs.Images.{bytes_words};
 ghost use Rattle.console.specs.Shown.{ShownBy, refusal_line};
 
-use anyhow::anyhow;
 use image::{Image, OpenError};
 use std::alloc::Global;
 use std::io::{BufWriter, Read, Stdout, Write};
@@ -29,7 +28,7 @@ pub fn show_image<W: Write, F: FnOnce(&mut W, &Image) -> anyhow::Result<()>>(
     match image.open(heap, bytes) {
         Ok(()) => show(out, &image),
         Err(OpenError::Refused(refusal)) => Ok(writeln!(out, "{refusal}")?),
-        Err(OpenError::OutOfMemory) => Err(anyhow!("no memory for the image")),
+        Err(error) => Err(error.into()),
     }
 }
 
