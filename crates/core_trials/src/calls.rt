@@ -1,6 +1,7 @@
 // Clocks and runs that are accepted.
-use super::shown::{handed, mark, ran, state};
+use super::shown::{Outcome, Standing, handed, mark, ran, state};
 use memory::bank::Bank;
+use memory::fault::{Cause, Fault};
 use pipeline::calls::Reason;
 use pipeline::clock::Handed;
 use pipeline::state::Core;
@@ -18,7 +19,11 @@ fn constant_that_looks_like_a_source(rt: HostRuntime) {
     let mut list = [Handed::blank(); 4];
     assert_eq!(rt;
         ran(core.run(&store, &mut memory, 7, &mut list)),
-        Ok((7, 2, 3))
+        Ok(Outcome {
+            clocks: 7,
+            events: 2,
+            reason: 3,
+        })
     );
     assert_eq!(rt; mark(list[0]), (0, 5));
     assert_eq!(rt; mark(list[1]), (4, 7));
@@ -33,17 +38,28 @@ fn clock_by_clock(rt: HostRuntime) {
     let mut words = [7u32];
     let mut memory = Bank::new(0, &mut words, 0);
     let mut core = Core::new();
-    for clock in 1..=8u32 {
-        let expected = match clock {
-            5 => Some((0, 5)),
-            7 => Some((4, 7)),
-            8 => Some((8, 8)),
-            _ => None,
-        };
-        assert_eq!(rt; handed(core.clock(&store, &mut memory)), Ok(expected));
+    let expected = [
+        None,
+        None,
+        None,
+        None,
+        Some((0, 5)),
+        None,
+        Some((4, 7)),
+        Some((8, 8)),
+    ];
+    for (clock, mark) in (1..=8u32).zip(expected) {
+        assert_eq!(rt; handed(core.clock(&store, &mut memory)), Ok(mark));
         assert_eq!(rt; core.clocks(), clock);
     }
-    assert_eq!(rt; state(&core), (0, 7, 0, 8, [None; 4]));
+    let end = Standing {
+        r0: Ok(0),
+        r1: Ok(7),
+        flags: 0,
+        clocks: 8,
+        slots: [None; 4],
+    };
+    assert_eq!(rt; state(&core), end);
 }
 
 // The ADD waits in clock 3; in clock 5 both its sources come from Writeback.
@@ -55,10 +71,7 @@ fn stall_and_forwarding(rt: HostRuntime) -> Result<(), Fail> {
     let mut memory = Bank::new(0, &mut words, 0);
     let mut core = Core::new();
     for clock in 1..=5u32 {
-        let Ok(tick) = core.clock(&store, &mut memory) else {
-            assert!(rt; false);
-            return Ok(());
-        };
+        let tick = core.clock(&store, &mut memory)?;
         assert_eq!(rt; tick.signals.stall, clock == 3);
         let code = if clock == 5 { 1 } else { 0 };
         assert_eq!(rt; tick.signals.first.number(), code);
@@ -78,7 +91,11 @@ fn registers_up_to_14(rt: HostRuntime) {
     let mut list = [Handed::blank(); 4];
     assert_eq!(rt;
         ran(core.run(&store, &mut memory, 100, &mut list)),
-        Ok((6, 2, 1))
+        Ok(Outcome {
+            clocks: 6,
+            events: 2,
+            reason: 1,
+        })
     );
     assert_eq!(rt; core.register(14), Ok(263));
     assert_eq!(rt; core.register(15), Err(UnknownRegister));
@@ -93,24 +110,19 @@ fn stop_in_the_answer(rt: HostRuntime) -> Result<(), Fail> {
     let mut memory = Bank::new(0, &mut words, 9);
     let mut core = Core::new();
     let mut list = [Handed::blank(); 4];
-    let Ok(answer) = core.run(&store, &mut memory, 100, &mut list) else {
-        assert!(rt; false);
-        return Ok(());
-    };
+    let answer = core.run(&store, &mut memory, 100, &mut list)?;
     let Reason::Stop(event) = answer.reason else {
-        assert!(rt; false);
-        return Ok(());
+        return Err(Fail::new("the run ended without a stop"));
     };
     assert_eq!(rt; (event.address, event.word), (0, 0xE590_1002));
     assert_eq!(rt; event.cause(), 22);
-    let Some(fault) = event.fault() else {
-        assert!(rt; false);
-        return Ok(());
+    let expected = Fault {
+        cause: Cause::Unaligned,
+        address: 2,
+        tag: 9,
     };
-    assert_eq!(rt;
-        (fault.cause.number(), fault.address, fault.tag),
-        (10, 2, 9)
-    );
+    assert_eq!(rt; event.fault(), Some(expected));
+    assert_eq!(rt; expected.cause.number(), 10);
     Ok(())
 }
 
@@ -125,10 +137,21 @@ fn full_list_and_largest_figures(rt: HostRuntime) -> Result<(), Fail> {
     let mut list = vec![in rt.alloc(); Handed::blank(); 4096]?;
     assert_eq!(rt;
         ran(core.run(&store, &mut memory, 1_000_000, list.as_mut_slice())),
-        Ok((12_290, 4096, 2))
+        Ok(Outcome {
+            clocks: 12_290,
+            events: 4096,
+            reason: 2,
+        })
     );
     assert_eq!(rt; core.clocks(), 12_290);
     core.reset();
-    assert_eq!(rt; state(&core), (0, 0, 0, 0, [None; 4]));
+    let reset = Standing {
+        r0: Ok(0),
+        r1: Ok(0),
+        flags: 0,
+        clocks: 0,
+        slots: [None; 4],
+    };
+    assert_eq!(rt; state(&core), reset);
     Ok(())
 }

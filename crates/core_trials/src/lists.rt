@@ -1,28 +1,33 @@
 // A list of calls of all kinds, some refused, performed in one go.
-use super::shown::{handed, mark, ran};
+use super::shown::mark;
 use memory::bank::Bank;
 use pipeline::state::Core;
 use refinement::perform::{Answer, Call, perform};
 use std::test::Fail;
 
-// What an answer comes to, as one number: an address, a count of clocks, or 100 and the number of a refusal.
-fn figure(answer: Answer) -> u32 {
+// What is looked at in an answer: an event's address, a run's clocks, a register, the flags, the address in the Memory
+// slot, or the number of a refusal.
+#[derive(Clone, Copy, PartialEq, Debug)]
+enum Figure {
+    Handed(Option<u32>),
+    Clocks(u32),
+    Register(u32),
+    Flags(u8),
+    Slot(Option<u32>),
+    Refused(u8),
+}
+
+fn figure_of(answer: Answer) -> Figure {
     match answer {
-        Answer::Clock(answer) => match handed(answer) {
-            Ok(Some((address, _))) => address,
-            Ok(None) => 99,
-            Err(number) => 100 + number as u32,
-        },
-        Answer::Run(answer) => match ran(answer) {
-            Ok((clocks, _, _)) => clocks,
-            Err(number) => 100 + number as u32,
-        },
-        Answer::Register(answer) => match answer {
-            Ok(value) => value,
-            Err(refusal) => 100 + refusal.number() as u32,
-        },
-        Answer::Flags(flags) => flags.bits() as u32,
-        Answer::Slots(slots) => slots.memory.unwrap_or(98),
+        Answer::Clock(Ok(tick)) => Figure::Handed(tick.handed.map(|handed| handed.event.address)),
+        Answer::Run(Ok(ran)) => Figure::Clocks(ran.clocks),
+        Answer::Clock(Err(refusal)) | Answer::Run(Err(refusal)) => {
+            Figure::Refused(refusal.number())
+        }
+        Answer::Register(Ok(value)) => Figure::Register(value),
+        Answer::Register(Err(refusal)) => Figure::Refused(refusal.number()),
+        Answer::Flags(flags) => Figure::Flags(flags.bits()),
+        Answer::Slots(slots) => Figure::Slot(slots.memory),
     }
 }
 
@@ -58,16 +63,31 @@ fn mixed_calls(rt: HostRuntime) -> Result<(), Fail> {
         Call::Clock,
         run,
     ];
-    let expected = [98u32, 3, 2, 0, 113, 108, 99, 0, 7, 0, 2, 41, 106, 106];
+    let expected = [
+        Figure::Slot(None),
+        Figure::Clocks(3),
+        Figure::Flags(2),
+        Figure::Slot(Some(0)),
+        Figure::Refused(13),
+        Figure::Refused(8),
+        Figure::Handed(None),
+        Figure::Handed(Some(0)),
+        Figure::Register(7),
+        Figure::Register(0),
+        Figure::Clocks(2),
+        Figure::Register(41),
+        Figure::Refused(6),
+        Figure::Refused(6),
+    ];
     let performance = perform(heap, &mut core, &store, &mut memory, &calls)?;
     assert_eq!(rt; performance.answers.len(), expected.len());
-    for (answer, figure_expected) in performance.answers.iter().zip(expected.iter()) {
-        assert_eq!(rt; figure(*answer), *figure_expected);
+    for (answer, figure) in performance.answers.iter().zip(expected) {
+        assert_eq!(rt; figure_of(*answer), figure);
     }
     let marks = [(0u32, 5u32), (4, 6), (8, 7)];
     assert_eq!(rt; performance.handed.len(), marks.len());
-    for (event, expected_mark) in performance.handed.iter().zip(marks.iter()) {
-        assert_eq!(rt; mark(*event), *expected_mark);
+    for (event, expected_mark) in performance.handed.iter().zip(marks) {
+        assert_eq!(rt; mark(*event), expected_mark);
     }
     Ok(())
 }

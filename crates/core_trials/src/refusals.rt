@@ -1,5 +1,5 @@
 // Every refusal of clock and run, and that core, data and list stay as they were.
-use super::shown::{handed, mark, ran, state};
+use super::shown::{Outcome, Standing, handed, mark, ran, state};
 use memory::bank::Bank;
 use memory::store::{Memory, Store};
 use pipeline::clock::Handed;
@@ -44,33 +44,62 @@ fn each_refusal(rt: HostRuntime) -> Result<(), Fail> {
     let mut list = [Handed::blank(); 3];
     assert_eq!(rt;
         ran(core.run(&store, &mut memory, 4, &mut list)),
-        Ok((4, 0, 3))
+        Ok(Outcome {
+            clocks: 4,
+            events: 0,
+            reason: 3,
+        })
     );
-    refused_run(&rt, heap, &mut core, &store, &mut memory, 0, 1, 8)?;
-    refused_run(&rt, heap, &mut core, &store, &mut memory, 1_000_001, 1, 8)?;
-    refused_run(&rt, heap, &mut core, &store, &mut memory, 1, 0, 9)?;
-    refused_run(&rt, heap, &mut core, &store, &mut memory, 1, 4097, 9)?;
-    refused_run(&rt, heap, &mut core, &store, &mut memory, 0, 4097, 8)?;
-    assert_eq!(rt; memory.read(0).is_ok(), true);
+    for (budget, places, number) in [
+        (0, 1, 8),
+        (1_000_001, 1, 8),
+        (1, 0, 9),
+        (1, 4097, 9),
+        (0, 4097, 8),
+    ] {
+        refused_run(
+            &rt,
+            heap,
+            &mut core,
+            &store,
+            &mut memory,
+            budget,
+            places,
+            number,
+        )?;
+    }
+    assert_eq!(rt; memory.read(0), Ok(5));
     assert_eq!(rt;
         ran(core.run(&store, &mut memory, 100, &mut list)),
-        Ok((3, 3, 1))
+        Ok(Outcome {
+            clocks: 3,
+            events: 3,
+            reason: 1,
+        })
     );
     let stopped = state(&core);
-    assert_eq!(rt; stopped, (8, 0, 0, 7, [None; 4]));
+    let expected = Standing {
+        r0: Ok(8),
+        r1: Ok(0),
+        flags: 0,
+        clocks: 7,
+        slots: [None; 4],
+    };
+    assert_eq!(rt; stopped, expected);
     assert_eq!(rt; handed(core.clock(&store, &mut memory)), Err(6));
     assert_eq!(rt; state(&core), stopped);
-    refused_run(&rt, heap, &mut core, &store, &mut memory, 1, 1, 6)?;
-    refused_run(&rt, heap, &mut core, &store, &mut memory, 1, 0, 9)?;
-    refused_run(&rt, heap, &mut core, &store, &mut memory, 0, 0, 8)?;
-    match memory.read(0) {
-        Ok(word) => {
-            assert_eq!(rt; word, 8);
-            Ok(())
-        },
-        Err(_) => {
-            assert!(rt; false);
-            Ok(())
-        },
+    for (budget, places, number) in [(1, 1, 6), (1, 0, 9), (0, 0, 8)] {
+        refused_run(
+            &rt,
+            heap,
+            &mut core,
+            &store,
+            &mut memory,
+            budget,
+            places,
+            number,
+        )?;
     }
+    assert_eq!(rt; memory.read(0), Ok(8));
+    Ok(())
 }

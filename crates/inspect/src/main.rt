@@ -1,46 +1,19 @@
 // Prints every word of the image on standard input with its address and its instruction, or why the image is refused.
 #![tactic(auto)]
 
-use console::read_image;
+use console::show_input;
 use image::Image;
-use isa::Assembly;
-use isa::decode::decode;
+use isa::Disassembly;
+use std::io::Write;
 
-fn print_word(rt: &HostRuntime, address: u32, word: u32) -> anyhow::Result<()> {
-    match decode(word) {
-        Some(instruction) => {
-            let assembly = Assembly {
-                address,
-                instruction,
-            };
-            println!(rt; "{address:08x} {word:08x} {assembly}")?;
-        }
-        None => println!(rt; "{address:08x} {word:08x} -")?,
+fn print_words<W: Write>(out: &mut W, image: &Image) -> anyhow::Result<()> {
+    for (address, word) in (0..=u32::MAX).step_by(4).zip(image.words()) {
+        let text = Disassembly { address, word };
+        writeln!(out, "{address:08x} {word:08x} {text}")?;
     }
     Ok(())
-}
-
-fn print_words(rt: &HostRuntime, image: &Image) -> anyhow::Result<()> {
-    let mut address = 0u32;
-    for index in 0..image.len() {
-        if let Some(word) = image.word(index) {
-            print_word(rt, address, word)?;
-            address = address.wrapping_add(4);
-        }
-    }
-    Ok(())
-}
-
-fn inspect(rt: &HostRuntime) -> anyhow::Result<()> {
-    match read_image(rt)? {
-        Ok(image) => print_words(rt, &image),
-        Err(refusal) => {
-            println!(rt; "{refusal}")?;
-            Ok(())
-        }
-    }
 }
 
 fn main(rt: HostRuntime) -> anyhow::Result<()> {
-    inspect(&rt)
+    show_input(&rt, |out, image| print_words(out, image))
 }

@@ -2,10 +2,9 @@
 use Rattle.std.specs.Prelude.{ℕ, Bool, cond, List, [], ◌++◌, Some, None, codes, decimal, Option}
 use Rattle.memory.specs.Fault.{number}
 use Rattle.memory.specs.declared.fault.Fault.{Fault}
-use Rattle.isa.specs.Decoding.{decoded}
-use Rattle.isa.specs.Syntax.{assembly_text, register_text}
+use Rattle.isa.specs.Syntax.{or_dash, register_text}
 use Rattle.isa.specs.declared.flags.Flags.{Flags}
-use Rattle.isa.specs.declared.instruction.Instruction.{Instruction}
+use Rattle.stepper.specs.EventWords.{instruction_of}
 use Rattle.stepper.specs.Events.{stop_number, stop_fault}
 use Rattle.stepper.specs.declared.event.Event.{Event}
 use Rattle.stepper.specs.declared.event.Kind.{Kind}
@@ -13,7 +12,6 @@ use Rattle.stepper.specs.declared.event.Kind.TheVariants.{Done, Skipped, Stopped
 use Rattle.stepper.specs.declared.event.MemoryWrite.{MemoryWrite}
 use Rattle.stepper.specs.declared.event.RegisterWrite.{RegisterWrite}
 use Rattle.stepper.specs.declared.event.Stop.{Stop}
-use Rattle.stepper.specs.declared.event.Stop.TheVariants.{Fetch, Outside, Access}
 use Rattle.isa.specs.Hexadecimal.{hex_text}
 
 abbrev pub kind_text : Kind → List ℕ
@@ -49,18 +47,6 @@ effect_text Done register store = change_text register store
 effect_text Skipped register store = change_text register store
 effect_text (Stopped stop) register store = stop_text stop
 
--- an instruction at an address, or a dash
-abbrev pub or_dash : ℕ → Option Instruction → List ℕ
-or_dash address None = codes "-"
-or_dash address (Some i) = assembly_text (record { address = address; instruction = i })
-
--- where no word was read there is no instruction, though the event's word is then 0
-abbrev pub if_read : Kind → List ℕ → List ℕ
-if_read Done text = text
-if_read Skipped text = text
-if_read (Stopped (Fetch fault)) text = codes "-"
-if_read (Stopped Outside) text = text
-if_read (Stopped (Access fault)) text = text
-
+-- an event's instruction; a dash for a word outside the subset, and where no word was read
 abbrev pub instruction_text : Event → List ℕ
-instruction_text e = if_read e.kind (or_dash e.address (decoded e.word))
+instruction_text e = or_dash e.address (instruction_of e)

@@ -3,8 +3,7 @@
 ghost use Rattle.std.specs.Prelude.{◌≡◌, ◌++◌, IfOk, Some, string_bytes, codes, decimal};
 ghost use Rattle.lines.specs.Columns.{kind_text, letter, flags_text, stop_text, effect_text, instruction_text};
 
-use isa::assembly::Assembly;
-use isa::decode::decode;
+use isa::Assembly;
 use isa::flags::Flags;
 use isa::hex::Hex;
 use std::alloc::{AllocError, Global};
@@ -15,18 +14,17 @@ use stepper::event::{Event, Kind, Stop};
 pub fn instruction_column(heap: Global, event: Event) -> Result<String, AllocError>
     ensures { IfOk result (λ text. string_bytes text ≡ instruction_text event) }
 {
-    if let Kind::Stopped(Stop::Fetch(_)) = event.kind {
-        return String::from_str(heap, "-");
+    match event.instruction() {
+        Some(instruction) => {
+            let address = event.address;
+            let assembly = Assembly {
+                address,
+                instruction,
+            };
+            assembly.to_string(heap)
+        }
+        None => String::from_str(heap, "-"),
     }
-    let Some(instruction) = decode(event.word) else {
-        return String::from_str(heap, "-");
-    };
-    let address = event.address;
-    let assembly = Assembly {
-        address,
-        instruction,
-    };
-    assembly.to_string(heap)
 }
 
 /// `done`, `skipped` or `stop`.

@@ -6,7 +6,3 @@ pub record BeginsWith (text : List ℕ) (count : ℕ) (before after : List ℕ) 
   pub counted : count ≡ length text
   pub fits : count ≤ 80
   pub bytes : after ≡ text ++ drop (length text) before
-
--- a text is put behind whatever text stands in front of a place
-abbrev pub Adds : List ℕ → ℕ → ℕ → List ℕ → List ℕ → Type 0
-Adds text at end entry exit = (before front : List ℕ) → BeginsWith front at before entry → BeginsWith (front ++ text) end before exit

@@ -1,7 +1,7 @@
 //! One clock of a core together with its line of the listing.
 
-ghost use Rattle.std.specs.Prelude.{◌≡◌};
-ghost use Rattle.stepper.specs.Step.{setting};
+ghost use Rattle.memory.specs.Keeping.{OnlyWordsChange};
+ghost use Rattle.stepper.specs.Memories.{setting_of};
 ghost use Rattle.pipeline.specs.Clock.{machine};
 ghost use Rattle.pipeline.specs.Calls.{Clocks};
 ghost use Rattle.report.specs.ListedClock.{tick_in, LineMade};
@@ -13,7 +13,7 @@ use pipeline::clock::Tick;
 use pipeline::state::Core;
 
 /// What a clock answered, and the length of its line.
-#[derive(Clone, Copy)]
+#[derive(Clone, Copy, PartialEq, Eq, Debug)]
 pub struct Listed {
     pub length: usize,
     pub tick: Tick,
@@ -26,10 +26,9 @@ pub fn clock_line<S: Store, M: Memory>(
     memory: &mut M,
     buffer: &mut [u8; 80],
 ) -> Result<Listed, Refusal>
-    ensures clock { Clocks (setting (S.Store.word_at store.now) (S.Store.tag_at store.now) (M.Store.tag_at memory.old) (M.Memory.writable_at memory.old)) (machine core.old (M.Store.word_at memory.old)) (tick_in result) (machine core.new (M.Store.word_at memory.new)) }
+    ensures clock { Clocks (setting_of S.Store M.Store M.Memory.own store.now memory.old) (machine core.old (M.Store.word_at memory.old)) (tick_in result) (machine core.new (M.Store.word_at memory.new)) }
     ensures line { LineMade result core.new buffer.old buffer.new }
-    ensures tags { M.Store.tag_at memory.new ≡ M.Store.tag_at memory.old }
-    ensures writability { M.Memory.writable_at memory.new ≡ M.Memory.writable_at memory.old }
+    ensures rest { OnlyWordsChange M.Store M.Memory.own memory.old memory.new }
 {
     let tick = core.clock(store, memory)?;
     let length = line(core.clocks(), core.slots(), tick.handed, buffer);

@@ -1,78 +1,60 @@
 //! A line of the listing: the clock's number, the slots after the clock, and the event that it handed out.
-//! A field behind another is put with the space before it.
 
-ghost use Rattle.std.specs.Prelude.{◌≡◌, ◌+◌, ◌≤◌, ◌++◌, length, drop, decimal};
-ghost use Rattle.isa.specs.Hexadecimal.{hex_text};
-ghost use Rattle.report.specs.Buffer.{Adds, BeginsWith};
+ghost use Rattle.std.specs.Prelude.{◌≡◌, ◌+◌, ◌≤◌, ◌++◌, length, drop};
 ghost use Rattle.report.specs.ListingLine.{address_field, cause_mark, event_field, spaced, stop_mark, line_text};
 
-use super::text::{put, put_decimal, spaced_digits};
+use super::text::Text;
+use isa::hex::digits;
 use pipeline::calls::SlotAddresses;
 use pipeline::clock::Handed;
 use stepper::event::{Kind, Stop};
 
-// The address in a slot, or a dash for an empty one.
-fn put_slot(buffer: &mut [u8; 80], at: usize, address: Option<u32>) -> usize
-    requires { at + 9 ≤ 80 }
-    ensures text { Adds (spaced (address_field address)) at result buffer.old buffer.new }
-    ensures end { result ≤ at + 9 }
-{
-    match address {
-        Some(address) => put(buffer, at, &spaced_digits(address)),
-        None => put(buffer, at, b" -"),
+impl Text {
+    // A space, then the address in a slot, or a dash for an empty one.
+    fn put_slot(&mut self, address: Option<u32>)
+        requires { length self.old + 9 ≤ 80 }
+        ensures text { self.new ≡ self.old ++ spaced (address_field address) }
+        ensures most { length self.new ≤ length self.old + 9 }
+    {
+        self.put(b" ");
+        match address {
+            Some(address) => self.put(&digits(address)),
+            None => self.put(b"-"),
+        }
     }
-}
 
-// `!` and a stop's cause.
-fn put_stop(buffer: &mut [u8; 80], at: usize, stop: Stop) -> usize
-    requires { at + 11 ≤ 80 }
-    ensures text { Adds (stop_mark stop) at result buffer.old buffer.new }
-    ensures end { result ≤ at + 11 }
-{
-    let place = put(buffer, at, b"!");
-    put_decimal(buffer, place, stop.number() as u32)
-}
-
-// What stands behind an event's address: nothing, but for a stop.
-fn put_cause(buffer: &mut [u8; 80], at: usize, kind: Kind) -> usize
-    requires { at + 11 ≤ 80 }
-    ensures text { Adds (cause_mark kind) at result buffer.old buffer.new }
-    ensures end { result ≤ at + 11 }
-{
-    match kind {
-        Kind::Stopped(stop) => put_stop(buffer, at, stop),
-        Kind::Done | Kind::Skipped => at,
+    // `!` and a stop's cause.
+    fn put_stop(&mut self, stop: Stop)
+        requires { length self.old + 11 ≤ 80 }
+        ensures text { self.new ≡ self.old ++ stop_mark stop }
+        ensures most { length self.new ≤ length self.old + 11 }
+    {
+        self.put(b"!");
+        self.put_decimal(u32::from(stop.number()));
     }
-}
 
-// An event's address, and the cause of a stop.
-fn put_address(buffer: &mut [u8; 80], at: usize, address: u32, kind: Kind) -> usize
-    requires { at + 20 ≤ 80 }
-    ensures text { Adds (spaced (hex_text address ++ cause_mark kind)) at result buffer.old buffer.new }
-    ensures end { result ≤ at + 20 }
-{
-    let place = put(buffer, at, &spaced_digits(address));
-    put_cause(buffer, place, kind)
-}
-
-// What the clock handed out, or a dash.
-fn put_event(buffer: &mut [u8; 80], at: usize, handed: Option<Handed>) -> usize
-    requires { at + 20 ≤ 80 }
-    ensures text { Adds (spaced (event_field handed)) at result buffer.old buffer.new }
-    ensures end { result ≤ at + 20 }
-{
-    match handed {
-        Some(handed) => put_address(buffer, at, handed.event.address, handed.event.kind),
-        None => put(buffer, at, b" -"),
+    // What stands behind an event's address: nothing, but for a stop.
+    fn put_cause(&mut self, kind: Kind)
+        requires { length self.old + 11 ≤ 80 }
+        ensures text { self.new ≡ self.old ++ cause_mark kind }
+        ensures most { length self.new ≤ length self.old + 11 }
+    {
+        if let Kind::Stopped(stop) = kind {
+            self.put_stop(stop);
+        }
     }
-}
 
-// The number of the clock, at the start of the buffer.
-fn put_clock(buffer: &mut [u8; 80], clock: u32) -> usize
-    ensures text { BeginsWith (decimal clock) result buffer.old buffer.new }
-    ensures end { result ≤ 10 }
-{
-    put_decimal(buffer, 0, clock)
+    // A space, then what the clock handed out, or a dash.
+    fn put_event(&mut self, handed: Option<Handed>)
+        requires { length self.old + 20 ≤ 80 }
+        ensures text { self.new ≡ self.old ++ spaced (event_field handed) }
+        ensures most { length self.new ≤ length self.old + 20 }
+    {
+        self.put_slot(handed.map(|handed| handed.event.address));
+        if let Some(handed) = handed {
+            self.put_cause(handed.event.kind);
+        }
+    }
 }
 
 /// Makes the line of a clock in the buffer and answers its length; the bytes behind it stay as they were.
@@ -86,11 +68,13 @@ pub fn line(
     ensures fits { result ≤ 80 }
     ensures bytes { buffer.new ≡ line_text clock slots handed ++ drop (length (line_text clock slots handed)) buffer.old }
 {
-    let place = put_clock(buffer, clock);
-    let place = put_slot(buffer, place, slots.decode);
-    let place = put_slot(buffer, place, slots.execute);
-    let place = put_slot(buffer, place, slots.memory);
-    let place = put_slot(buffer, place, slots.writeback);
-    let place = put_event(buffer, place, handed);
-    put(buffer, place, b"\n")
+    let mut text = Text::new();
+    text.put_decimal(clock);
+    text.put_slot(slots.decode);
+    text.put_slot(slots.execute);
+    text.put_slot(slots.memory);
+    text.put_slot(slots.writeback);
+    text.put_event(handed);
+    text.put(b"\n");
+    text.copy_to(buffer)
 }

@@ -1,61 +1,64 @@
-//! Text in a buffer. A function that puts a text at a place answers the place behind it, and leaves all other bytes
-//! as they were.
+//! The text of a line while it is made, with no heap.
 
-ghost use Rattle.std.specs.Prelude.{◌≡◌, ◌+◌, ◌%◌, ◌≤◌, length, decimal};
-ghost use Rattle.isa.specs.Hexadecimal.{digit_code, hex_text};
-ghost use Rattle.report.specs.Buffer.{Adds};
-ghost use Rattle.report.specs.ListingLine.{spaced};
+ghost use Rattle.std.specs.Prelude.{◌≡◌, ◌+◌, ◌%◌, ◌≤◌, [], ◌++◌, length, take, drop, decimal, List, ℕ};
 
-/// Bytes as they are.
-pub(super) fn put(buffer: &mut [u8; 80], at: usize, text: &[u8]) -> usize
-    requires { at + length text.now ≤ 80 }
-    ensures text { Adds text.now at result buffer.old buffer.new }
-    ensures end { result ≡ at + length text.now }
-{
-    let end = at + text.len();
-    buffer[at..end].copy_from_slice(text);
-    end
+use std::marker::Model;
+
+/// At most 80 bytes. Clauses see those that were put so far.
+#[derive(Drop)]
+pub(super) struct Text {
+    bytes: [u8; 80],
+    length: usize,
 }
 
-/// A number in decimal digits, without leading zeros: ten at most.
-pub(super) fn put_decimal(buffer: &mut [u8; 80], at: usize, number: u32) -> usize
-    requires { at + 10 ≤ 80 }
-    ensures text { Adds (decimal number) at result buffer.old buffer.new }
-    ensures end { result ≡ at + length (decimal number) }
-    ensures most { result ≤ at + 10 }
-{
-    if number < 10 {
-        return put(buffer, at, &[b'0' + number as u8]);
+impl Model for Text {
+    ghost Value = { List ℕ };
+
+    ghost view = { λ t. take t.length t.bytes };
+
+    ghost invariant = { λ t. t.length ≤ 80 };
+}
+
+impl Text {
+    /// No text.
+    pub(super) fn new() -> Text
+        ensures { result ≡ [] }
+    {
+        Text {
+            bytes: [0; 80],
+            length: 0,
+        }
     }
-    let place = put_decimal(buffer, at, number / 10);
-    put(buffer, place, &[b'0' + (number % 10) as u8])
-}
 
-// The lowest hexadecimal digit of a number: 0 to 9, then a to f.
-fn digit(number: u32) -> u8
-    ensures { result ≡ digit_code (number % 16) }
-{
-    let digit = (number % 16) as u8;
-    if digit < 10 {
-        b'0' + digit
-    } else {
-        b'a' - 10 + digit
+    /// Bytes as they are.
+    pub(super) fn put(&mut self, text: &[u8])
+        requires { length self.old + length text.now ≤ 80 }
+        ensures { self.new ≡ self.old ++ text.now }
+    {
+        let end = self.length + text.len();
+        self.bytes[self.length..end].copy_from_slice(text);
+        self.length = end;
     }
-}
 
-/// A space, then a word in eight hexadecimal digits.
-pub(super) fn spaced_digits(word: u32) -> [u8; 9]
-    ensures { result ≡ spaced (hex_text word) }
-{
-    [
-        b' ',
-        digit(word >> 28),
-        digit(word >> 24),
-        digit(word >> 20),
-        digit(word >> 16),
-        digit(word >> 12),
-        digit(word >> 8),
-        digit(word >> 4),
-        digit(word),
-    ]
+    /// A number in decimal digits, without leading zeros: ten at most.
+    pub(super) fn put_decimal(&mut self, number: u32)
+        requires { length self.old + 10 ≤ 80 }
+        ensures text { self.new ≡ self.old ++ decimal number }
+        ensures most { length self.new ≤ length self.old + 10 }
+    {
+        if number >= 10 {
+            self.put_decimal(number / 10);
+        }
+        self.put(&[b'0' + (number % 10) as u8]);
+    }
+
+    /// Copies the text to the front of a buffer and answers its length; the bytes behind it stay as they were.
+    pub(super) fn copy_to(&self, buffer: &mut [u8; 80]) -> usize
+        ensures length { result ≡ length self.now }
+        ensures fits { result ≤ 80 }
+        ensures bytes { buffer.new ≡ self.now ++ drop (length self.now) buffer.old }
+    {
+        buffer[..self.length].copy_from_slice(&self.bytes[..self.length]);
+        self.length
+    }
 }

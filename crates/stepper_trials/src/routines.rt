@@ -8,18 +8,6 @@ use std::test::Fail;
 use stepper::event::Event;
 use stepper::run::run;
 
-fn same_line(
-    rt: &impl Abort,
-    heap: Global,
-    number: u32,
-    event: Event,
-    expected: &str,
-) -> Result<(), Fail> {
-    let line = Line::new(heap, number, event)?;
-    assert_eq!(rt; line.to_string(heap)?.as_str(), expected);
-    Ok(())
-}
-
 /// The events have exactly these lines.
 pub fn same_lines(
     rt: &impl Abort,
@@ -28,10 +16,9 @@ pub fn same_lines(
     expected: &[&str],
 ) -> Result<(), Fail> {
     assert_eq!(rt; events.len(), expected.len());
-    let mut number = 0u32;
-    for (event, line) in events.iter().zip(expected.iter()) {
-        number = number.wrapping_add(1);
-        same_line(rt, heap, number, *event, *line)?;
+    for (number, (event, expected)) in (1..=u32::MAX).zip(events.iter().zip(expected)) {
+        let line = Line::new(heap, number, *event)?;
+        assert_eq!(rt; line.to_string(heap)?.as_str(), *expected);
     }
     Ok(())
 }

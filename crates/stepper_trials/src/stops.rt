@@ -1,10 +1,12 @@
 // Each stop with its fault, what a stop leaves as it was, and the refusal of a further step.
 use super::routines::{routine, runs_to};
-use image::{Image, ImageStore};
+use image::ImageStore;
 use memory::bank::Bank;
 use memory::store::{Memory, Store};
+use packing::pack::image_of;
 use std::test::Fail;
-use stepper::stepper::Stepper;
+use stepper::registers::UnknownRegister;
+use stepper::stepper::{HasStopped, Stepper};
 
 #[test]
 fn no_word_to_fetch(rt: HostRuntime) -> Result<(), Fail> {
@@ -67,25 +69,12 @@ fn no_access(rt: HostRuntime) -> Result<(), Fail> {
     )
 }
 
-// The block of the one word EAFFFFFE.
-fn one_word() -> [u8; 512] {
-    let mut block = [0u8; 512];
-    block[2] = 1;
-    block[4] = 0xFE;
-    block[5] = 0xFF;
-    block[6] = 0xFF;
-    block[7] = 0xEA;
-    block[508] = 0x01;
-    block[510] = 0xFF;
-    block[511] = 0x14;
-    block
-}
-
 #[test]
 fn read_only_data(rt: HostRuntime) -> Result<(), Fail> {
     let heap = rt.alloc();
-    let mut image = Image::new(heap);
-    image.open(heap, &one_word())?;
+    let Ok(image) = image_of(heap, &[0xEAFF_FFFE]) else {
+        return Err(Fail::new("no image"));
+    };
     let mut memory = ImageStore::new(&image, 9);
     let mut program = [0xE581_0000u32];
     let store = Bank::new(0, &mut program, 3);
@@ -101,41 +90,57 @@ fn read_only_data(rt: HostRuntime) -> Result<(), Fail> {
     )
 }
 
-// R0, the flags, the next address and the mark.
-fn state(stepper: &Stepper) -> (u32, u8, u32, bool) {
-    let r0 = match stepper.register(0) {
-        Ok(value) => value,
-        Err(_) => 0,
-    };
-    (
-        r0,
-        stepper.flags().bits(),
-        stepper.next_address(),
-        stepper.has_stopped(),
-    )
+// What the calls without a change answer.
+#[derive(Clone, Copy, PartialEq, Debug)]
+struct Standing {
+    r0: Result<u32, UnknownRegister>,
+    flags: u8,
+    next_address: u32,
+    has_stopped: bool,
 }
 
-// The number by which a step is refused, and 0 if it is not.
-fn refusal_of<S: Store, M: Memory>(stepper: &mut Stepper, store: &S, memory: &mut M) -> u8 {
-    match stepper.step(store, memory) {
-        Ok(_) => 0,
-        Err(refusal) => refusal.number(),
+fn state(stepper: &Stepper) -> Standing {
+    Standing {
+        r0: stepper.register(0),
+        flags: stepper.flags().bits(),
+        next_address: stepper.next_address(),
+        has_stopped: stepper.has_stopped(),
     }
+}
+
+// The number by which a step is refused, if it is.
+fn refusal_of<S: Store, M: Memory>(
+    stepper: &mut Stepper,
+    store: &S,
+    memory: &mut M,
+) -> Option<u8> {
+    stepper.step(store, memory).err().map(HasStopped::number)
 }
 
 // SUBS R0, R0, #1; LDR R0, [R0], which cannot be made.
 #[test]
-fn a_stop_leaves_the_rest(rt: HostRuntime) {
+fn a_stop_leaves_the_rest(rt: HostRuntime) -> Result<(), Fail> {
     let mut program = [0xE250_0001u32, 0xE590_0000];
     let store = Bank::new(0, &mut program, 3);
     let mut words = [5u32];
     let mut memory = Bank::new(0, &mut words, 7);
     let mut stepper = Stepper::new();
-    let _ = refusal_of(&mut stepper, &store, &mut memory);
-    assert_eq!(rt; state(&stepper), (0xFFFF_FFFF, 8, 4, false));
-    assert_eq!(rt; refusal_of(&mut stepper, &store, &mut memory), 0);
-    assert_eq!(rt; state(&stepper), (0xFFFF_FFFF, 8, 4, true));
-    assert_eq!(rt; refusal_of(&mut stepper, &store, &mut memory), 6);
-    assert_eq!(rt; state(&stepper), (0xFFFF_FFFF, 8, 4, true));
+    let _ = stepper.step(&store, &mut memory)?;
+    let before = Standing {
+        r0: Ok(0xFFFF_FFFF),
+        flags: 8,
+        next_address: 4,
+        has_stopped: false,
+    };
+    assert_eq!(rt; state(&stepper), before);
+    let stopped = Standing {
+        has_stopped: true,
+        ..before
+    };
+    assert_eq!(rt; refusal_of(&mut stepper, &store, &mut memory), None);
+    assert_eq!(rt; state(&stepper), stopped);
+    assert_eq!(rt; refusal_of(&mut stepper, &store, &mut memory), Some(6));
+    assert_eq!(rt; state(&stepper), stopped);
     assert_eq!(rt; words, [5]);
+    Ok(())
 }

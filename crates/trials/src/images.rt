@@ -28,26 +28,23 @@ fn add_block(bytes: &mut Vec<u8>, draft: Draft) -> Result<(), AllocError> {
     let head = u32::from(draft.place) + u32::from(draft.count) * 65536;
     bytes.extend_from_slice(&head.to_le_bytes())?;
     bytes.extend_from_slice(&draft.first.to_le_bytes())?;
-    for _ in 0..124 {
-        bytes.extend_from_slice(&[0; 4])?;
-    }
+    bytes.extend_from_slice(&[0; 496])?;
     bytes.extend_from_slice(&draft.last.to_le_bytes())?;
     let sum = head.wrapping_add(draft.first).wrapping_add(draft.last);
     let check = 0xFFFF_FFFFu32.wrapping_sub(sum).wrapping_add(draft.excess);
     bytes.extend_from_slice(&check.to_le_bytes())
 }
 
-// The number and the place that opening answers, and (0, 0) for bytes that open.
-fn answer(heap: Global, bytes: &[u8]) -> Result<(u8, u16), Fail> {
-    let mut image = Image::new(heap);
-    match image.open(heap, bytes) {
-        Ok(()) => Ok((0, 0)),
-        Err(OpenError::Refused(refusal)) => Ok((refusal.number(), refusal.place())),
+// What opening answers: the number and the place of a refusal.
+fn answer(heap: Global, bytes: &[u8]) -> Result<Result<(), (u8, u16)>, Fail> {
+    match Image::new(heap).open(heap, bytes) {
+        Ok(()) => Ok(Ok(())),
+        Err(OpenError::Refused(refusal)) => Ok(Err((refusal.number(), refusal.place()))),
         Err(OpenError::OutOfMemory) => Err(Fail::new("no memory")),
     }
 }
 
-fn blocks(heap: Global, drafts: &[Draft]) -> Result<(u8, u16), Fail> {
+fn blocks(heap: Global, drafts: &[Draft]) -> Result<Result<(), (u8, u16)>, Fail> {
     let mut bytes = Vec::new(heap);
     for draft in drafts {
         add_block(&mut bytes, *draft)?;
@@ -55,7 +52,7 @@ fn blocks(heap: Global, drafts: &[Draft]) -> Result<(u8, u16), Fail> {
     answer(heap, bytes.as_slice())
 }
 
-fn many(heap: Global, count: u16) -> Result<(u8, u16), Fail> {
+fn many(heap: Global, count: u16) -> Result<Result<(), (u8, u16)>, Fail> {
     let mut bytes = Vec::new(heap);
     for place in 0..count {
         add_block(&mut bytes, Draft { place, ..FULL })?;
@@ -66,26 +63,20 @@ fn many(heap: Global, count: u16) -> Result<(u8, u16), Fail> {
 // The block of the one word EAFFFFFE.
 fn one_word() -> [u8; 512] {
     let mut block = [0u8; 512];
-    block[2] = 1;
-    block[4] = 0xFE;
-    block[5] = 0xFF;
-    block[6] = 0xFF;
-    block[7] = 0xEA;
-    block[508] = 0x01;
-    block[510] = 0xFF;
-    block[511] = 0x14;
+    block[..8].copy_from_slice(&[0, 0, 1, 0, 0xFE, 0xFF, 0xFF, 0xEA]);
+    block[508..].copy_from_slice(&[0x01, 0x00, 0xFF, 0x14]);
     block
 }
 
 #[test]
 fn number_of_blocks(rt: HostRuntime) -> Result<(), Fail> {
     let heap = rt.alloc();
-    assert_eq!(rt; many(heap, 0)?, (1, 0));
-    assert_eq!(rt; many(heap, 1)?, (0, 0));
-    assert_eq!(rt; many(heap, 64)?, (0, 0));
-    assert_eq!(rt; many(heap, 65)?, (1, 0));
-    assert_eq!(rt; answer(heap, &[0; 511])?, (1, 0));
-    assert_eq!(rt; answer(heap, &[0; 513])?, (1, 0));
+    assert_eq!(rt; many(heap, 0)?, Err((1, 0)));
+    assert_eq!(rt; many(heap, 1)?, Ok(()));
+    assert_eq!(rt; many(heap, 64)?, Ok(()));
+    assert_eq!(rt; many(heap, 65)?, Err((1, 0)));
+    assert_eq!(rt; answer(heap, &[0; 511])?, Err((1, 0)));
+    assert_eq!(rt; answer(heap, &[0; 513])?, Err((1, 0)));
     Ok(())
 }
 
@@ -104,16 +95,16 @@ fn each_refusal(rt: HostRuntime) -> Result<(), Fail> {
                 },
             ],
         )?,
-        (2, 1)
+        Err((2, 1))
     );
-    assert_eq!(rt; blocks(heap, &[FULL, FULL])?, (3, 1));
+    assert_eq!(rt; blocks(heap, &[FULL, FULL])?, Err((3, 1)));
     assert_eq!(rt;
         blocks(heap, &[Draft { count: 125, ..FULL }, second])?,
-        (4, 0)
+        Err((4, 0))
     );
-    assert_eq!(rt; blocks(heap, &[Draft { count: 0, ..FULL }])?, (4, 0));
-    assert_eq!(rt; blocks(heap, &[Draft { count: 1, ..FULL }])?, (0, 0));
-    assert_eq!(rt; blocks(heap, &[Draft { count: 127, ..FULL }])?, (4, 0));
+    assert_eq!(rt; blocks(heap, &[Draft { count: 0, ..FULL }])?, Err((4, 0)));
+    assert_eq!(rt; blocks(heap, &[Draft { count: 1, ..FULL }])?, Ok(()));
+    assert_eq!(rt; blocks(heap, &[Draft { count: 127, ..FULL }])?, Err((4, 0)));
     assert_eq!(rt;
         blocks(
             heap,
@@ -126,9 +117,9 @@ fn each_refusal(rt: HostRuntime) -> Result<(), Fail> {
                 },
             ],
         )?,
-        (5, 1)
+        Err((5, 1))
     );
-    assert_eq!(rt; blocks(heap, &[FULL, Draft { last: 8, ..second }])?, (0, 0));
+    assert_eq!(rt; blocks(heap, &[FULL, Draft { last: 8, ..second }])?, Ok(()));
     Ok(())
 }
 
@@ -142,14 +133,14 @@ fn earliest_refusal(rt: HostRuntime) -> Result<(), Fail> {
         last: 8,
         excess: 1,
     };
-    assert_eq!(rt; blocks(heap, &[wrong])?, (2, 0));
-    assert_eq!(rt; blocks(heap, &[Draft { excess: 0, ..wrong }])?, (3, 0));
+    assert_eq!(rt; blocks(heap, &[wrong])?, Err((2, 0)));
+    assert_eq!(rt; blocks(heap, &[Draft { excess: 0, ..wrong }])?, Err((3, 0)));
     let in_place = Draft {
         place: 0,
         excess: 0,
         ..wrong
     };
-    assert_eq!(rt; blocks(heap, &[in_place])?, (4, 0));
+    assert_eq!(rt; blocks(heap, &[in_place])?, Err((4, 0)));
     assert_eq!(rt;
         blocks(
             heap,
@@ -158,12 +149,12 @@ fn earliest_refusal(rt: HostRuntime) -> Result<(), Fail> {
                 ..in_place
             }],
         )?,
-        (5, 0)
+        Err((5, 0))
     );
-    assert_eq!(rt; blocks(heap, &[FULL, wrong])?, (2, 1));
+    assert_eq!(rt; blocks(heap, &[FULL, wrong])?, Err((2, 1)));
     assert_eq!(rt;
         blocks(heap, &[Draft { count: 125, ..FULL }, wrong])?,
-        (4, 0)
+        Err((4, 0))
     );
     Ok(())
 }
@@ -179,13 +170,10 @@ fn one_word_image(rt: HostRuntime) -> Result<(), Fail> {
     assert_eq!(rt; image.word(0), Some(0xEAFF_FFFE));
     assert_eq!(rt; image.word(1), None);
     // A refusal leaves the opened image as it was.
-    match image.open(heap, &[0; 512]) {
-        Err(OpenError::Refused(refusal)) => assert_eq!(rt;
-            refusal.to_string(heap)?.as_str(),
-            "image 2 0"
-        ),
-        _ => return Err(Fail::new("a block of zeros opened")),
-    }
+    let Err(OpenError::Refused(refusal)) = image.open(heap, &[0; 512]) else {
+        return Err(Fail::new("a block of zeros opened"));
+    };
+    assert_eq!(rt; refusal.to_string(heap)?.as_str(), "image 2 0");
     assert_eq!(rt; image.word(0), Some(0xEAFF_FFFE));
     Ok(())
 }
@@ -235,8 +223,8 @@ fn image_store(rt: HostRuntime) -> Result<(), Fail> {
 // That block with some bits of one byte the other way round.
 fn flipped(place: usize, mask: u8) -> [u8; 512] {
     let mut block = one_word();
-    if place < 512 {
-        block[place] ^= mask;
+    if let Some(byte) = block.get_mut(place) {
+        *byte ^= mask;
     }
     block
 }
@@ -244,10 +232,10 @@ fn flipped(place: usize, mask: u8) -> [u8; 512] {
 #[test]
 fn flipped_bits(rt: HostRuntime) -> Result<(), Fail> {
     let heap = rt.alloc();
-    assert_eq!(rt; answer(heap, &flipped(512, 1))?, (0, 0));
+    assert_eq!(rt; answer(heap, &flipped(512, 1))?, Ok(()));
     for place in 0..512 {
         for mask in [1u8, 2, 4, 8, 16, 32, 64, 128] {
-            assert_eq!(rt; answer(heap, &flipped(place, mask))?, (2, 0));
+            assert_eq!(rt; answer(heap, &flipped(place, mask))?, Err((2, 0)));
         }
     }
     Ok(())

@@ -2,18 +2,12 @@
 // registers, flags and data after it, and the stepper's events. What it must print comes from the second model.
 #![tactic(auto)]
 
-use anyhow::anyhow;
-use image::{Image, ImageStore, OpenError};
-use lines::Line;
-use memory::bank::Bank;
-use memory::store::{Memory, Store};
+use console::{DATA_WORDS, print_events, print_listing, show_image, stepped, with_memories};
+use image::Image;
+use memory::store::Memory;
 use pipeline::state::Core;
-use report::clocking::clock_line;
+use std::alloc::Global;
 use std::io::{BufWriter, Read, Write};
-use stepper::run::run;
-
-// The words of each data memory, from address 0 on.
-const DATA_WORDS: usize = 1024;
 
 // The most clocks and the most steps of an image.
 const LIMIT: u32 = 200;
@@ -25,30 +19,8 @@ const MOST_BYTES: u64 = 8_000_000;
 
 // The first image, which stands behind its length in four bytes, and the bytes behind it.
 fn first_image(bytes: &[u8]) -> Option<(&[u8], &[u8])> {
-    let [a, b, c, d, rest @ ..] = bytes else {
-        return None;
-    };
-    let length = u32::from_le_bytes([*a, *b, *c, *d]) as usize;
-    if length > rest.len() {
-        return None;
-    }
-    Some((&rest[..length], &rest[length..]))
-}
-
-fn print_listing<W: Write, S: Store, M: Memory>(
-    out: &mut W,
-    core: &mut Core,
-    store: &S,
-    memory: &mut M,
-) -> anyhow::Result<()> {
-    let mut buffer = [0u8; 80];
-    for _clock in 0..LIMIT {
-        let Ok(listed) = clock_line(core, store, memory, &mut buffer) else {
-            break;
-        };
-        out.write_all(&buffer[..listed.length])?;
-    }
-    Ok(())
+    let (length, rest) = bytes.split_first_chunk::<4>()?;
+    rest.split_at_checked(u32::from_le_bytes(*length) as usize)
 }
 
 fn print_state<W: Write, M: Memory>(out: &mut W, core: &Core, memory: &M) -> anyhow::Result<()> {
@@ -70,45 +42,17 @@ fn print_state<W: Write, M: Memory>(out: &mut W, core: &Core, memory: &M) -> any
     Ok(())
 }
 
-fn print_core<W: Write>(out: &mut W, image: &Image) -> anyhow::Result<()> {
-    let mut words = [0u32; DATA_WORDS];
-    let mut memory = Bank::new(0, &mut words, 0);
-    let store = ImageStore::new(image, 0);
-    let mut core = Core::new();
-    print_listing(out, &mut core, &store, &mut memory)?;
-    print_state(out, &core, &memory)
+fn print_image<W: Write>(heap: Global, out: &mut W, image: &Image) -> anyhow::Result<()> {
+    with_memories(image, |store, memory| {
+        let mut core = Core::new();
+        print_listing(out, &mut core, store, memory, LIMIT)?;
+        print_state(out, &core, memory)
+    })?;
+    let events = stepped(heap, image, LIMIT)?;
+    print_events(heap, out, events.as_slice())
 }
 
-fn print_steps<W: Write>(rt: &HostRuntime, out: &mut W, image: &Image) -> anyhow::Result<()> {
-    let mut words = [0u32; DATA_WORDS];
-    let mut memory = Bank::new(0, &mut words, 0);
-    let store = ImageStore::new(image, 0);
-    let events = run(rt.alloc(), &store, &mut memory, LIMIT)?;
-    let mut number = 0u32;
-    for event in events.iter() {
-        number = number.wrapping_add(1);
-        let line = Line::new(rt.alloc(), number, *event)?;
-        writeln!(out, "{line}")?;
-    }
-    Ok(())
-}
-
-fn print_image<W: Write>(rt: &HostRuntime, out: &mut W, bytes: &[u8]) -> anyhow::Result<()> {
-    let mut image = Image::new(rt.alloc());
-    match image.open(rt.alloc(), bytes) {
-        Ok(()) => {
-            print_core(out, &image)?;
-            print_steps(rt, out, &image)
-        }
-        Err(OpenError::Refused(refusal)) => {
-            writeln!(out, "{refusal}")?;
-            Ok(())
-        }
-        Err(OpenError::OutOfMemory) => Err(anyhow!("no memory for the image")),
-    }
-}
-
-fn print_all(rt: &HostRuntime) -> anyhow::Result<()> {
+fn main(rt: HostRuntime) -> anyhow::Result<()> {
     let mut bytes = Vec::new(rt.alloc());
     rt.stdin().take(MOST_BYTES).read_to_end(&mut bytes)?;
     let mut out = BufWriter::new(rt.alloc(), rt.stdout())?;
@@ -118,13 +62,10 @@ fn print_all(rt: &HostRuntime) -> anyhow::Result<()> {
             break;
         };
         writeln!(out, "vector {number}")?;
-        print_image(rt, &mut out, image)?;
+        show_image(rt.alloc(), image, &mut out, |out, image| {
+            print_image(rt.alloc(), out, image)
+        })?;
         rest = behind;
     }
-    out.flush()?;
-    Ok(())
-}
-
-fn main(rt: HostRuntime) -> anyhow::Result<()> {
-    print_all(&rt)
+    Ok(out.flush()?)
 }

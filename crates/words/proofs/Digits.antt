@@ -1,38 +1,58 @@
--- Reading digits one after another.
-use Rattle.std.proofs.Common.{◌≡◌, ℕ, ◌+◌, ◌*◌, ◌^◌, ◌<◌, ◌≤◌, List, length, get_or, drop, Some, None, Option, sym, ap, ◌∙◌, arith, pow-add}
-use native.Mathlib.Nat.{pow-le-pow_right}
+-- The library's digits are those of the specification.
+use Rattle.std.proofs.Common.{◌≡◌, ℕ, ◌+◌, ◌*◌, ◌^◌, ◌<◌, ◌≤◌, List, [], ◌∷◌, length, Some, None, Option, Result, Ok, Err, Bool, false, cond, ◌==◌, slice_index, drop, inl, inr, refl, sym, ap, ◌∙◌, subst, add-zero, arith, pow-add}
 use Rattle.std.proofs.lemmas.Nat.{mul-add-lt}
-use Rattle.std.proofs.lemmas.List.{drop_more, drop_all}
+use Rattle.std.proofs.lemmas.Bool.{cases_lt}
+use Rattle.std.proofs.lemmas.Bool.Decides.{nat_tests}
+use Rattle.std.specs.Char.{digit_value}
+use Rattle.std.specs.Result.{OkIff, result_ok}
+use Rattle.std.specs.Str.Parse.{AllDigits, IsNumeral, ParsesUnsigned, digits_value, digits_value_after, without_leading_plus}
 use Rattle.isa.specs.Decoding.{and_then}
 use Rattle.words.specs.Hexadecimal.{digit_of, number_on}
 
--- a number of i digits stays below 16 ^ (i + 1) with one more
-pub one_more : (number digit i : ℕ) → number < 16 ^ i → digit < 16 → number * 16 + digit < 16 ^ (i + 1)
-one_more number digit i h d = omega (arith, mul-add-lt number 16 digit (16 ^ i) h d, pow-add 16 i 1)
+-- a byte is a digit or none
+digit_in : (byte : ℕ) → digit_value byte < 16 → digit_of byte ≡ Some (digit_value byte)
+digit_in byte h = grind (arith, nat_tests)
 
--- there is room for an eighth digit
-pub seven : (number i : ℕ) → number < 16 ^ i → i < 8 → number < 16 ^ 7
-seven number i h k =
-    let one : 0 < 16 = omega arith in
-    let most : i ≤ 7 = omega arith in
-    omega (arith, pow-le-pow_right one most)
+digit_out : (byte : ℕ) → 16 ≤ digit_value byte → digit_of byte ≡ None
+digit_out byte h = grind (arith, nat_tests)
 
--- a digit is taken in
-pub taken :
-    (bytes : List ℕ) (number i digit : ℕ) → i < length bytes → Some digit ≡ digit_of (get_or bytes i 0)
-    → number_on (number * 16 + digit) (drop (i + 1) bytes) ≡ number_on number (drop i bytes)
-taken bytes number i digit h e =
-    let next : ℕ → Option ℕ = λ d. number_on (number * 16 + d) (drop (i + 1) bytes) in
-    ap (λ o. and_then o next) e ∙ sym (ap (number_on number) (drop_more bytes i 0 h))
+-- digits alone are a number, and other bytes are none
+all_digits : (number : ℕ) (bytes : List ℕ) → AllDigits 16 bytes → number_on number bytes ≡ Some (digits_value_after 16 number bytes)
+all_digits number [] all = refl
+all_digits number (byte ∷ bytes) all =
+    ap (λ o. and_then o (λ digit. number_on (number * 16 + digit) bytes)) (digit_in byte all.0)
+    ∙ all_digits (number * 16 + digit_value byte) bytes all.1
 
--- what is no digit ends it
-pub stopped :
-    (bytes : List ℕ) (number i : ℕ) → i < length bytes → None ≡ digit_of (get_or bytes i 0)
-    → None ≡ number_on number (drop i bytes)
-stopped bytes number i h e =
-    let next : ℕ → Option ℕ = λ d. number_on (number * 16 + d) (drop (i + 1) bytes) in
-    ap (λ o. and_then o next) e ∙ sym (ap (number_on number) (drop_more bytes i 0 h))
+not_all : (number : ℕ) (bytes : List ℕ) → ¬ (AllDigits 16 bytes) → number_on number bytes ≡ None
+not_all number [] none = absurd (none tt)
+not_all number (byte ∷ bytes) none =
+    let next : ℕ → Option ℕ = λ digit. number_on (number * 16 + digit) bytes in
+    elim (cases_lt (digit_value byte) 16) [
+      | inl low ↦ ap (λ o. and_then o next) (digit_in byte low) ∙ not_all (number * 16 + digit_value byte) bytes (λ all. none (low, all))
+      | inr high ↦ ap (λ o. and_then o next) (digit_out byte high)
+    ]
 
--- after the last digit the number is whole
-pub whole : (bytes : List ℕ) (number i : ℕ) → length bytes ≤ i → Some number ≡ number_on number (drop i bytes)
-whole bytes number i h = sym (ap (number_on number) (drop_all i bytes h))
+-- n digits stay below 16 ^ n
+below : (number n : ℕ) (bytes : List ℕ) → number < 16 ^ n → AllDigits 16 bytes → digits_value_after 16 number bytes < 16 ^ (n + length bytes)
+below number n [] h all = rw add-zero h
+below number n (byte ∷ bytes) h all =
+    let room : number * 16 + digit_value byte < 16 ^ (n + 1) = omega (arith, mul-add-lt number 16 (digit_value byte) (16 ^ n) h all.0, pow-add 16 n 1) in
+    subst (λ k. digits_value_after 16 (number * 16 + digit_value byte) bytes < 16 ^ k) (omega arith) (below (number * 16 + digit_value byte) (n + 1) bytes room all.1)
+
+eight_digits :
+    {E : Type 0} (bytes : List ℕ) (r : Result ℕ E) → length bytes ≡ 8
+    → OkIff r (IsNumeral 16 bytes × (digits_value 16 bytes < 2 ^ 32)) (digits_value 16 bytes)
+    → result_ok r ≡ number_on 0 bytes
+eight_digits bytes (Ok number) eight p = ap Some p.1 ∙ sym (all_digits 0 bytes p.0.0.1)
+eight_digits bytes (Err error) eight p =
+    let fits : AllDigits 16 bytes → digits_value 16 bytes < 2 ^ 32 =
+    λ all. subst (λ (n : ℕ). digits_value 16 bytes < 16 ^ (0 + n)) eight (below 0 0 bytes (omega arith) all) in
+    sym (not_all 0 bytes (λ all. p ((omega arith, all), fits all)))
+
+-- what the library parses of eight bytes, where no sign stands first
+pub parsed :
+    {E : Type 0} (bytes : List ℕ) (r : Result ℕ E) → length bytes ≡ 8 → false ≡ (slice_index bytes 0 == 43)
+    → ParsesUnsigned 32 16 bytes r → result_ok r ≡ number_on 0 bytes
+parsed bytes r eight no_sign p =
+    let plain : without_leading_plus bytes ≡ bytes = sym (ap (λ (sign : Bool). drop (cond sign 1 0) bytes) no_sign) in
+    eight_digits bytes r eight (subst (λ digits. OkIff r (IsNumeral 16 digits × (digits_value 16 digits < 2 ^ 32)) (digits_value 16 digits)) plain p)

@@ -3,39 +3,21 @@
 #![tactic(auto)]
 
 use hexadecimal::word_in;
-use isa::Assembly;
-use isa::decode::decode;
+use isa::Disassembly;
 use std::io::{BufRead, BufReader};
 
 mod hexadecimal;
 
-fn print_word(rt: &HostRuntime, word: u32) -> anyhow::Result<()> {
-    match decode(word) {
-        Some(instruction) => {
-            let assembly = Assembly {
-                address: 0,
-                instruction,
-            };
-            println!(rt; "{word:08x} {assembly}")?;
-        }
-        None => println!(rt; "{word:08x} -")?,
-    }
-    Ok(())
-}
-
-fn words(rt: &HostRuntime) -> anyhow::Result<()> {
-    let mut number = 0u64;
-    for line in BufReader::new(rt.alloc(), rt.stdin())?.lines(rt.alloc()) {
-        let line = line?;
-        number = number.wrapping_add(1);
-        match word_in(line.as_str()) {
-            Some(word) => print_word(rt, word)?,
+fn main(rt: HostRuntime) -> anyhow::Result<()> {
+    let lines = BufReader::new(rt.alloc(), rt.stdin())?.lines(rt.alloc());
+    for (number, line) in (1..=u64::MAX).zip(lines) {
+        match word_in(line?.as_str()) {
+            Some(word) => {
+                let text = Disassembly { address: 0, word };
+                println!(rt; "{word:08x} {text}")?;
+            }
             None => println!(rt; "line {number}: not a word")?,
         }
     }
     Ok(())
-}
-
-fn main(rt: HostRuntime) -> anyhow::Result<()> {
-    words(&rt)
 }
