@@ -23,6 +23,7 @@ fn first_image(bytes: &[u8]) -> Option<(&[u8], &[u8])> {
     rest.split_at_checked(u32::from_le_bytes(*length) as usize)
 }
 
+// Registers and words are asked for by number and address: there is no list of either to go over.
 fn print_state<W: Write, M: Memory>(out: &mut W, core: &Core, memory: &M) -> anyhow::Result<()> {
     write!(out, "registers")?;
     for number in 0..15u8 {
