@@ -1,4 +1,5 @@
-// Clocks and runs that are accepted.
+// Clocks and runs that are accepted. Each test lends its own program and words, so the lines that set up the memories stand in
+// each: a function that did it would take the test as a closure, and the test would read no plainer.
 use super::shown::{Outcome, Standing, handed, mark, ran, state};
 use memory::bank::Bank;
 use memory::fault::{Cause, Fault};

@@ -39,6 +39,7 @@ pub struct Outcome {
 }
 
 /// What a run came to, or the number of its refusal.
+// Numbers, and not the enums' variants: they are what users are told.
 pub fn ran(answer: Result<Ran, Refusal>) -> Result<Outcome, u8> {
     answer
         .map(|ran| Outcome {

@@ -35,7 +35,7 @@ fn add_block(bytes: &mut Vec<u8>, draft: Draft) -> Result<(), AllocError> {
     bytes.extend_from_slice(&check.to_le_bytes())
 }
 
-// What opening answers: the number and the place of a refusal.
+// What opening answers: the number and the place of a refusal. They are compared as users are told them.
 fn answer(heap: Global, bytes: &[u8]) -> Result<Result<(), (u8, u16)>, Fail> {
     match Image::new(heap).open(heap, bytes) {
         Ok(()) => Ok(Ok(())),
