@@ -1,11 +1,11 @@
 -- The table of due clocks, one line at a time. Assumes nothing.
-use Rattle.std.proofs.Common.{◌≡◌, ℕ, ◌+◌, ◌*◌, ◌<◌, ◌≤◌, Bool, true, false, List, [], ◌∷◌, ◌++◌, length, get_or, take, Some, None, count_by, Option, sym, refl, ap, ◌∙◌, subst, ⊎_elim, mul-add, arith}
+use Rattle.std.proofs.Common.{◌≡◌, ℕ, ◌+◌, ◌*◌, ◌<◌, ◌≤◌, Bool, true, false, List, [], ◌∷◌, ◌++◌, length, get_or, take, Some, None, count_by, Option, sym, ap, ◌∙◌, subst, ⊎_elim, mul-add, arith}
 use Rattle.std.proofs.lemmas.List.{take_more, length_push, get_or_push, get_or_append_left}
 use Rattle.std.proofs.lemmas.Bool.{cases_lt}
 use Rattle.stepper.specs.declared.event.Event.{Event}
 use Rattle.refinement.specs.ClockLaw.{bit, but_last, taken_branch, done_write_15, skipped_write_15, feeds}
 use Rattle.refinement.proofs.Counting.{clock_push, uses_push, count_push}
-use Rattle.law.specs.DueClocks.{due_of, nothing_due, DueTable, further}
+use Rattle.law.specs.DueClocks.{due_of, nothing_due, further}
 use Rattle.law.specs.declared.due.Due.{Due}
 
 -- the last event of a list, if it has one
@@ -63,16 +63,6 @@ module _ (events : List Event) where
     pub each : (k : ℕ) → k < i → get_or table k nothing_due ≡ due_of (take (k + 1) events)
     pub small : Small i due
 
-  pub begins : (table : List Due) → table ≡ [] → Sofar 0 table nothing_due None
-  begins table e =
-      record {
-        ends = refl;
-        stands = refl;
-        lines = ap length e;
-        each = λ k h. absurd (omega arith);
-        small = record { clock = omega arith; stalls = omega arith; branches = omega arith; done_writes = omega arith; skipped_writes = omega arith };
-      }
-
   pub one_line : (i : ℕ) (table table' : List Due) (due due' : Due) (last : Option Event) (event : Event) → i < length events → event ≡ get_or events i event → Sofar i table due last → due' ≡ further last event due → table' ≡ table ++ due' ∷ [] → Sofar (i + 1) table' due' (Some event)
   one_line i table table' due due' last event h at st pd pt =
       let more : take (i + 1) events ≡ take i events ++ event ∷ [] = take_more events i event h ∙ ap (λ e. take i events ++ e ∷ []) (sym at) in
@@ -87,6 +77,3 @@ module _ (events : List Event) where
             (cases_lt k i);
         small = subst (Small (i + 1)) (sym pd) (small_further i last event due st.small);
       }
-
-  pub whole : (i : ℕ) (table : List Due) (due : Due) (last : Option Event) → i ≡ length events → Sofar i table due last → DueTable events table
-  whole i table due last e st = record { lines = st.lines ∙ e; each = λ k h. st.each k (omega arith) }
