@@ -109,11 +109,7 @@ fn state(stepper: &Stepper) -> Standing {
 }
 
 // The number by which a step is refused, if it is.
-fn refusal_of<S: Store, M: Memory>(
-    stepper: &mut Stepper,
-    store: &S,
-    memory: &mut M,
-) -> Option<u8> {
+fn refusal_of<S: Store, M: Memory>(stepper: &mut Stepper, store: &S, memory: &mut M) -> Option<u8> {
     stepper.step(store, memory).err().map(HasStopped::number)
 }
 
