@@ -32,7 +32,7 @@ pub fn show_image<W: Write, F: FnOnce(&mut W, &Image) -> anyhow::Result<()>>(
     }
 }
 
-/// The same of the bytes on standard input, on standard output.
+/// The same of the bytes on standard input, on standard output. No contract can say which bytes those are.
 pub fn show_input<F: FnOnce(&mut BufWriter<Stdout>, &Image) -> anyhow::Result<()>>(
     rt: &HostRuntime,
     show: F,

@@ -1,5 +1,5 @@
-// The edge that the programs share. No contract can say what is read or printed, so only that happens here, and all
-// decisions are the libraries'.
+// The edge that the programs share. What is read no contract can say; what is written, the contracts say where a line's
+// text is promised.
 #![tactic(auto)]
 
 mod input;
