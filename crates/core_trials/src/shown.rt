@@ -4,7 +4,7 @@ use pipeline::clock::{Handed, Tick};
 use pipeline::state::Core;
 use stepper::registers::UnknownRegister;
 
-/// What the calls without a change answer: two registers, the flags, the clocks and the slots.
+/// What the calls that change nothing answer: two registers, the flags, the clocks and the slots.
 #[derive(Clone, Copy, PartialEq, Debug)]
 pub struct Standing {
     pub r0: Result<u32, UnknownRegister>,

@@ -8,7 +8,7 @@ use std::io::Write;
 
 fn print_words<W: Write>(out: &mut W, image: &Image) -> anyhow::Result<()> {
     for (address, word) in (0..=u32::MAX).step_by(4).zip(image.words()) {
-        let text = Disassembly { address, word };
+        let text = Disassembly::of(address, word);
         writeln!(out, "{address:08x} {word:08x} {text}")?;
     }
     Ok(())

@@ -1,12 +1,9 @@
 -- Steps of a decoding that finds or fails.
-use Rattle.std.proofs.Common.{◌≡◌, ℕ, Bool, true, false, cond, eqb, List, [], ◌∷◌, Some, None, Option, sym, refl, ap, ◌∙◌, ⊎_elim, arith}
+use Rattle.std.proofs.Common.{◌≡◌, ℕ, Bool, true, false, cond, eqb, List, [], ◌∷◌, Some, None, Option, sym, refl, ap, ◌∙◌, ⊎_elim}
 use Rattle.std.proofs.lemmas.Bool.{cases_Bool, cond-true, cond-false, eqb-true}
+use Rattle.std.proofs.lemmas.Option.{none-some}
 use Rattle.isa.specs.Decoding.{and_then}
 use Rattle.isa.specs.Numbered.{numbered}
-
--- nothing is not something
-none_some : {X : Type 0} {P : Type 0} (x : X) → None ≡ Some x → P
-none_some x e = let z : ◌≡◌ {A = ℕ} 0 1 = cc in absurd (omega arith)
 
 -- what was found goes on
 pub then_on : {X Y : Type 0} (o : Option X) (x : X) (next : X → Option Y) → o ≡ Some x → and_then o next ≡ next x
@@ -16,19 +13,19 @@ then_on o x next e = ap (λ p. and_then p next) e
 pub then_back :
     {X Y : Type 0} (o : Option X) (next : X → Option Y) (y : Y) → and_then o next ≡ Some y
     → (x : X) × (o ≡ Some x) × (next x ≡ Some y)
-then_back None next y e = none_some y e
+then_back None next y e = absurd (none-some y e)
 then_back (Some x) next y e = (x, refl, e)
 
 -- a test that let something through was passed
 pub cond_back :
     {X : Type 0} (b : Bool) (x : X) (y : X) → cond b (Some x) None ≡ Some y → (b ≡ true) × (x ≡ y)
 cond_back true x y e = (refl, cc)
-cond_back false x y e = none_some y e
+cond_back false x y e = absurd (none-some y e)
 
 -- what a number finds has that number
 pub numbered_back :
     {X : Type 0} (number : X → ℕ) (xs : List X) (n : ℕ) (x : X) → numbered number xs n ≡ Some x → n ≡ number x
-numbered_back number [] n x e = none_some x e
+numbered_back number [] n x e = absurd (none-some x e)
 numbered_back number (y ∷ ys) n x e =
     ⊎_elim
     (λ t.

@@ -1,6 +1,5 @@
 -- The text of an instruction at an address, in the manual's syntax. A text is its bytes.
 use Rattle.std.specs.Prelude.{ℕ, ◌+◌, ◌%◌, ◌^◌, cond, List, [], ◌∷◌, ◌++◌, ℤ, Some, None, Option, codes, decimal, ◌==◌}
-use Rattle.isa.specs.Decoding.{decoded}
 use Rattle.isa.specs.Hexadecimal.{hex_text}
 use Rattle.isa.specs.Roles.{byte_offset}
 use Rattle.isa.specs.declared.assembly.Assembly.{Assembly}
@@ -100,7 +99,3 @@ assembly_text a = action_text a.address (condition_text a.instruction.condition)
 abbrev pub or_dash : ℕ → Option Instruction → List ℕ
 or_dash address None = codes "-"
 or_dash address (Some i) = assembly_text (record { address = address; instruction = i })
-
--- what a word at an address prints as
-abbrev pub word_text : ℕ → ℕ → List ℕ
-word_text address word = or_dash address (decoded word)

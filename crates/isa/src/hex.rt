@@ -3,7 +3,7 @@
 ghost use Rattle.std.specs.Prelude.{◌≡◌, ◌%◌, ◌<◌, [], ◌∷◌, Some};
 ghost use Rattle.isa.specs.Hexadecimal.{digit_code, hex_text};
 
-use std::fmt;
+use std::{array, fmt};
 
 /// The lowest hexadecimal digit of a number: 0 to 9, then a to f.
 fn digit(number: u32) -> u8
@@ -21,16 +21,7 @@ fn digit(number: u32) -> u8
 pub fn digits(word: u32) -> [u8; 8]
     ensures { result ≡ hex_text word }
 {
-    [
-        digit(word >> 28),
-        digit(word >> 24),
-        digit(word >> 20),
-        digit(word >> 16),
-        digit(word >> 12),
-        digit(word >> 8),
-        digit(word >> 4),
-        digit(word),
-    ]
+    array::from_fn(|k| digit(word >> (28 - 4 * k)))
 }
 
 /// A word that is printed in eight digits.
@@ -41,6 +32,7 @@ impl fmt::Display for Hex {
     ghost output = { λ w. Some (hex_text w.0) };
 
     fn fmt<W: fmt::Write>(&self, f: &mut fmt::Formatter<W>) -> fmt::Result {
+        // Byte by byte: of this form the library promises the text.
         let [a, b, c, d] = self.0.to_be_bytes();
         write!(f, "{a:02x}{b:02x}{c:02x}{d:02x}")
     }

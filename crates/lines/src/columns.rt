@@ -3,7 +3,7 @@
 ghost use Rattle.std.specs.Prelude.{◌≡◌, ◌++◌, IfOk, Some, string_bytes, codes, decimal};
 ghost use Rattle.lines.specs.Columns.{kind_text, letter, flags_text, stop_text, effect_text, instruction_text};
 
-use isa::Assembly;
+use isa::Disassembly;
 use isa::flags::Flags;
 use isa::hex::Hex;
 use std::alloc::{AllocError, Global};
@@ -14,17 +14,13 @@ use stepper::event::{Event, Kind, Stop};
 pub fn instruction_column(heap: Global, event: Event) -> Result<String, AllocError>
     ensures { IfOk result (λ text. string_bytes text ≡ instruction_text event) }
 {
-    match event.instruction() {
-        Some(instruction) => {
-            let address = event.address;
-            let assembly = Assembly {
-                address,
-                instruction,
-            };
-            assembly.to_string(heap)
-        }
-        None => String::from_str(heap, "-"),
-    }
+    let address = event.address;
+    let instruction = event.instruction();
+    let text = Disassembly {
+        address,
+        instruction,
+    };
+    text.to_string(heap)
 }
 
 /// `done`, `skipped` or `stop`.

@@ -1,6 +1,5 @@
 pub mod Bytes
 pub mod OneBlock
 pub mod Growing
-pub mod TextSteps
 pub mod ReadBack
 pub mod EightDigits

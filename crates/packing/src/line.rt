@@ -30,15 +30,14 @@ pub enum Place {
 pub fn kind_of(byte: u8) -> Kind
     ensures { result ≡ kind_of byte }
 {
-    let value = match byte {
-        b'0'..=b'9' => byte - b'0',
-        b'A'..=b'F' => byte - b'A' + 10,
-        b'a'..=b'f' => byte - b'a' + 10,
-        b' ' | b'\t' | b'\r' => return Kind::Blank,
-        b'#' => return Kind::Hash,
-        _ => return Kind::Other,
-    };
-    Kind::Digit(Digit { value })
+    match byte {
+        b' ' | b'\t' | b'\r' => Kind::Blank,
+        b'#' => Kind::Hash,
+        _ => match char::from(byte).to_digit(16) {
+            Some(value) => Kind::Digit(Digit { value: value as u8 }),
+            None => Kind::Other,
+        },
+    }
 }
 
 /// Where the next byte stands, if a byte of this kind may stand here.

@@ -214,22 +214,21 @@ impl Core {
         ensures rest { OnlyWordsChange M.Store M.Memory.own memory.old memory.new }
     {
         check_run(self, budget, list.len())?;
-        let mut made = 0;
         let mut written = 0;
-        // No `for` over the budget: each run ends by a reason, and the end of a `for` would never be reached.
-        'clocks: loop {
+        for made in 0..budget {
             let tick = self.tick(store, memory);
-            made += 1;
             written = place(list, written, tick.handed);
             let stop = stop_in(tick.handed);
-            if let Some(reason) = end_of(self, stop, list.len(), budget, written, made) {
+            if let Some(reason) = end_of(self, stop, list.len(), budget, written, made + 1) {
                 return Ok(Ran {
-                    clocks: made,
+                    clocks: made + 1,
                     events: written,
                     reason,
                 });
             }
         }
+        // The clock that spends the budget ends the run.
+        unreachable()
     }
 }
 

@@ -91,6 +91,7 @@ fn taking(write: Option<RegisterWrite>, register: Register, value: u32) -> u32
 }
 
 // An instruction with its operands.
+// Address, word and flags are the parts of a slot that is still being made, so they come one by one.
 fn perform(flags: Flags, address: u32, word: u32, issue: Issue) -> MemorySlot
     ensures { result ≡ performed flags address word issue }
 {

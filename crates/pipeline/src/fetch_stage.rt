@@ -45,7 +45,7 @@ pub fn value_for_15(write: Option<RegisterWrite>) -> Option<u32>
 fn is_write_15(write: Option<RegisterWrite>) -> bool
     ensures { result ≡ is_write_15 write }
 {
-    write.is_some_and(|write| write.register.number() == 15)
+    value_for_15(write).is_some()
 }
 
 /// Whether a write of register 15 is under way: in Decode or Execute whatever its condition, in Memory if it is done.

@@ -15,6 +15,7 @@ pub struct Slots {
     pub writeback: Option<WritebackSlot>,
 }
 
+/// The core between two clocks.
 #[derive(Clone, Copy, PartialEq, Eq, Debug)]
 pub struct Core {
     pub(crate) registers: Registers,

@@ -1,5 +1,6 @@
 -- What a clock makes of Execute, Decode and the fetch address, case by case. Assumes nothing.
 use Rattle.std.proofs.Common.{◌≡◌, ℕ, Bool, true, false, cond, ◌||◌, List, Some, None, Option, refl, ap, ◌∙◌}
+use Rattle.std.proofs.Math.Bool.{or-false}
 use Rattle.stepper.specs.Step.{Setting, behind}
 use Rattle.stepper.specs.declared.event.RegisterWrite.{RegisterWrite}
 use Rattle.pipeline.specs.Slots.{changed}
@@ -10,10 +11,6 @@ use Rattle.pipeline.specs.declared.slots.DecodeSlot.{DecodeSlot}
 use Rattle.pipeline.specs.declared.slots.ExecuteSlot.{ExecuteSlot}
 use Rattle.refinement.proofs.Stages.{no_load, issue_writes, no_value}
 use Rattle.refinement.proofs.View.{Front, idle, fetched, issuing, redirect, slot, held_at, writes, issue_at, in_execute_of, in_decode_of, fetch_of}
-
-or_false : (b : Bool) → (b || false) ≡ b
-or_false true = refl
-or_false false = refl
 
 emptied_or_filled : {T : Type 0} (b : Bool) (x : T) (old : Option T) → changed (cond b Empty (Fill x)) old ≡ cond b None (Some x)
 emptied_or_filled true x old = refl
@@ -77,7 +74,7 @@ module _ (s : Setting) (values : List ℕ) (memory writeback : Option RegisterWr
       issues a =
           let held = held_at s a in
           let free = no_load (Some held) in
-          let only : is_pending (Some held) None memory ≡ writes s a = ap (λ b. in_decode (Some held) || (false || b)) quiet ∙ or_false (in_decode (Some held)) in
+          let only : is_pending (Some held) None memory ≡ writes s a = ap (λ b. in_decode (Some held) || (false || b)) quiet ∙ or-false (in_decode (Some held)) in
           record {
             execute = λ i. changed (to_execute None (free i) (passing values (Some (slot s a)) (Some held))) None;
             decode = (λ i. changed (to_decode None (still i) (free i) (only i) (slot s (behind a))) (Some (slot s a))) ∙ emptied_or_filled (writes s a) (slot s (behind a)) (Some (slot s a));
@@ -88,7 +85,7 @@ module _ (s : Setting) (values : List ℕ) (memory writeback : Option RegisterWr
         -- an instruction in Execute that would write register 15
         pub holds15 : (front : Front) (f b : ℕ) → writes s a ≡ true → None ≡ in_execute_of s front values b → None ≡ in_decode_of s front b → f ≡ fetch_of s front b → Leads None (Some (issue_at s old a)) None f front b
         holds15 front f b w p q r =
-            let waiting : is_pending None (Some (issue_at s old a)) memory ≡ true = (λ i. issue_writes old a (held_at s a) i || quiet i) ∙ or_false (writes s a) ∙ w in
+            let waiting : is_pending None (Some (issue_at s old a)) memory ≡ true = (λ i. issue_writes old a (held_at s a) i || quiet i) ∙ or-false (writes s a) ∙ w in
             record {
               execute = p;
               decode = (λ i. changed (to_decode None (still i) false (waiting i) (slot s f)) None) ∙ q;
@@ -100,7 +97,7 @@ module _ (s : Setting) (values : List ℕ) (memory writeback : Option RegisterWr
           only_decode =
               (λ i. in_decode (Some (held_at s (behind a))) || (issue_writes old a (held_at s a) i || quiet i))
               ∙ ap (λ b. in_decode (Some (held_at s (behind a))) || (b || false)) plain
-              ∙ or_false (writes s (behind a))
+              ∙ or-false (writes s (behind a))
 
           -- a load, and its use behind it
           pub stays_back : stalls (awaited (Some (issue_at s old a))) (Some (held_at s (behind a))) ≡ true → Leads None (Some (issue_at s old a)) (Some (slot s (behind a))) (behind (behind a)) fetched (behind a)

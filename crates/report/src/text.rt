@@ -1,10 +1,11 @@
-//! The text of a line while it is made, with no heap.
+//! The text of a line while it is made, with no heap: an array and a length, since the libraries use no crate beside std.
 
 ghost use Rattle.std.specs.Prelude.{◌≡◌, ◌+◌, ◌%◌, ◌≤◌, [], ◌++◌, length, take, drop, decimal, List, ℕ};
 
 use std::marker::Model;
 
 /// At most 80 bytes. Clauses see those that were put so far.
+// Each method says how much room it needs: with a `Result` in place of that, `line` could fail.
 #[derive(Drop)]
 pub(super) struct Text {
     bytes: [u8; 80],

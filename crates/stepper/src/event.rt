@@ -46,6 +46,7 @@ pub struct MemoryWrite {
 }
 
 /// One instruction and what it did. The word is 0 if none could be read.
+// No `Option` for the word: a trace shows one for each event, and the kind tells whether it was read.
 #[derive(Clone, Copy, PartialEq, Eq, Debug)]
 pub struct Event {
     pub address: u32,
@@ -77,9 +78,8 @@ impl Stop {
         ensures { result ≡ stop_fault self }
     {
         match self {
-            Stop::Fetch(fault) => Some(fault),
+            Stop::Fetch(fault) | Stop::Access(fault) => Some(fault),
             Stop::Outside => None,
-            Stop::Access(fault) => Some(fault),
         }
     }
 }

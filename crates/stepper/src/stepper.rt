@@ -113,7 +113,8 @@ impl Stepper {
         self.event(word, Kind::Stopped(why))
     }
 
-    // Three methods ask that the routine goes on: `step` tests it once, and a type for that state would say it no plainer.
+    // Three methods ask that the routine goes on. Callers hold a stepper in both states, so each `step` would make a type for
+    // that state and undo it.
 
     // A skipped instruction is only passed by.
     fn skip(&mut self, word: u32) -> Event

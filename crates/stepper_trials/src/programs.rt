@@ -16,9 +16,7 @@ const LINES: [&str; 3] = [
 #[test]
 fn events_on_an_image(rt: HostRuntime) -> Result<(), Fail> {
     let heap = rt.alloc();
-    let Ok(image) = image_of(heap, &WORDS) else {
-        return Err(Fail::new("no image"));
-    };
+    let image = image_of(heap, &WORDS)?;
     let events = stepped(heap, &image, 100)?;
     same_lines(&rt, heap, events.as_slice(), &LINES)
 }
@@ -26,9 +24,7 @@ fn events_on_an_image(rt: HostRuntime) -> Result<(), Fail> {
 #[test]
 fn shown_and_refused(rt: HostRuntime) -> Result<(), Fail> {
     let heap = rt.alloc();
-    let Ok(bytes) = pack(heap, &WORDS) else {
-        return Err(Fail::new("no bytes"));
-    };
+    let bytes = pack(heap, &WORDS)?;
     let mut out = Vec::new(heap);
     show_image(heap, bytes.as_slice(), &mut out, |out, image| {
         let events = stepped(heap, image, 1)?;

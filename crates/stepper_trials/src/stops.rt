@@ -72,9 +72,7 @@ fn no_access(rt: HostRuntime) -> Result<(), Fail> {
 #[test]
 fn read_only_data(rt: HostRuntime) -> Result<(), Fail> {
     let heap = rt.alloc();
-    let Ok(image) = image_of(heap, &[0xEAFF_FFFE]) else {
-        return Err(Fail::new("no image"));
-    };
+    let image = image_of(heap, &[0xEAFF_FFFE])?;
     let mut memory = ImageStore::new(&image, 9);
     let mut program = [0xE581_0000u32];
     let store = Bank::new(0, &mut program, 3);
@@ -90,7 +88,7 @@ fn read_only_data(rt: HostRuntime) -> Result<(), Fail> {
     )
 }
 
-// What the calls without a change answer.
+// What the calls that change nothing answer.
 #[derive(Clone, Copy, PartialEq, Debug)]
 struct Standing {
     r0: Result<u32, UnknownRegister>,

@@ -33,8 +33,7 @@ fn print_state<W: Write, M: Memory>(out: &mut W, core: &Core, memory: &M) -> any
     let flags = core.flags().bits();
     let clocks = core.clocks();
     writeln!(out, "\nflags {flags} clocks {clocks}")?;
-    for index in 0..DATA_WORDS as u32 {
-        let address = index * 4;
+    for address in (0..4 * DATA_WORDS as u32).step_by(4) {
         let word = memory.read(address).unwrap_or(0);
         if word != 0 {
             writeln!(out, "data {address:08x} {word:08x}")?;

@@ -13,7 +13,7 @@ fn main(rt: HostRuntime) -> anyhow::Result<()> {
     for (number, line) in (1..=u64::MAX).zip(lines) {
         match word_in(line?.as_str()) {
             Some(word) => {
-                let text = Disassembly { address: 0, word };
+                let text = Disassembly::of(0, word);
                 println!(rt; "{word:08x} {text}")?;
             }
             None => println!(rt; "line {number}: not a word")?,

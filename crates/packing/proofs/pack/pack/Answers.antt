@@ -2,17 +2,9 @@ use Rattle.std.proofs.Common.{length, vec_items, min, sym, ap, ◌∙◌, arith}
 use Rattle.std.proofs.lemmas.Bool.{eqb-false}
 use Rattle.std.proofs.lemmas.Bool.Decides.{nat_tests}
 use Rattle.std.specs.Iterator.Adapters.{enumerate_count, enumerate_source}
-use Rattle.std.specs.Slice.Iter.{chunks_rest, chunks_size}
-use Rattle.packing.proofs.Growing.{packing_all, packing_more, packing_none}
+use Rattle.std.specs.Slice.Iter.{chunks_rest}
+use Rattle.packing.proofs.Growing.{packing_all, packing_more}
 use Rattle.packing.proofs.pack.pack.Goals as goal
-
-pub loop-place-init : goal.loop-place-init
-loop-place-init c =
-    let walk = c.into_iter-place-iterator.ensures.into_iter_gives in
-    let cut = ap enumerate_source walk ∙ c.enumerate-place-items.ensures.source in (
-      packing_none c.args.words.now c.new-bytes.ensures.items (ap chunks_rest cut ∙ c.chunks.ensures.rest) (ap enumerate_count walk ∙ c.enumerate-place-items.ensures.count),
-      ap chunks_size cut ∙ c.chunks.ensures.size,
-    )
 
 pub loop-place-preserved : goal.loop-place-preserved
 loop-place-preserved c =
