@@ -6,7 +6,7 @@ ghost use Rattle.image.specs.Layout.{count_of, word_of};
 use crate::layout::{BLOCK_WORDS, CHECK_WORD, PAYLOAD_WORDS, count_of};
 
 /// The words between a block's head and its check word, of which the first `count` belong to the image.
-// An array and a count, since an image is kept over blocks, each of one size.
+// An array and a count: by a rule of the project the image store stands over blocks, each of one size.
 #[derive(Drop)]
 pub struct Block {
     words: [u32; PAYLOAD_WORDS],

@@ -8,10 +8,15 @@ use std::alloc::AllocError;
 /// The first test that the bytes fail. A fault inside a block names the block by its place, counted from 0.
 #[derive(Clone, Copy, PartialEq, Eq, Debug)]
 pub enum Refusal {
+    /// No bytes, no whole number of blocks, or more than 64.
     Length,
+    /// The words of the block do not add up.
     Check(u16),
+    /// The block names another place than its own.
     Place(u16),
+    /// The block carries fewer or more words than it may at its place.
     Count(u16),
+    /// A word that only fills up the block is not 0.
     Filler(u16),
 }
 
@@ -47,7 +52,9 @@ impl Refusal {
 /// Memory can run out only for bytes that were found sound.
 #[derive(Clone, Copy, PartialEq, Eq, Debug)]
 pub enum OpenError {
+    /// The bytes are no image.
     Refused(Refusal),
+    /// They are one, but there was no memory for its blocks.
     OutOfMemory,
 }
 

@@ -17,6 +17,7 @@ pub struct ImageStore<'a> {
 }
 
 impl<'a> ImageStore<'a> {
+    /// The image as a store under a tag.
     pub fn new(image: &'a Image, tag: u8) -> ImageStore<'a>
         ensures image { result.image.now ≡ image.now }
         ensures tag { result.tag ≡ tag }

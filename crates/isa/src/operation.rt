@@ -26,14 +26,13 @@ impl Numbered for Operation {
         self as u8
     }
 
-    fn from_number(number: u32) -> Option<Operation> {
-        match number {
-            0 => Some(Operation::And),
-            2 => Some(Operation::Sub),
-            4 => Some(Operation::Add),
-            10 => Some(Operation::Cmp),
-            12 => Some(Operation::Orr),
-            _ => None,
-        }
+    fn each() -> &'static [Operation] {
+        &[
+            Operation::And,
+            Operation::Sub,
+            Operation::Add,
+            Operation::Cmp,
+            Operation::Orr,
+        ]
     }
 }

@@ -20,6 +20,7 @@ impl Image {
         (self.blocks.len() - 1) * PAYLOAD_WORDS + usize::from(last.count)
     }
 
+    /// Whether it has none.
     pub fn is_empty(&self) -> bool
         ensures { result ≡ (length (image_words self.now) == 0) }
     {

@@ -8,9 +8,6 @@ use Rattle.image.proofs.faults.check.Goals as goal
 pub returns-clause-exact : goal.returns-clause-exact
 returns-clause-exact c = refused_exactly c.args.bytes.now
 
-pub returns-then-not-size_fits-clause-exact : goal.returns-then-not-size_fits-clause-exact
-returns-then-not-size_fits-clause-exact c = refused_exactly c.args.bytes.now
-
 pub returns-in_err-check_block-clause-exact : goal.returns-in_err-check_block-clause-exact
 returns-in_err-check_block-clause-exact c = refused_exactly c.args.bytes.now
 
