@@ -63,23 +63,25 @@ impl Numbered for Condition {
         self as u8
     }
 
-    fn each() -> &'static [Condition] {
-        &[
-            Condition::Eq,
-            Condition::Ne,
-            Condition::Cs,
-            Condition::Cc,
-            Condition::Mi,
-            Condition::Pl,
-            Condition::Vs,
-            Condition::Vc,
-            Condition::Hi,
-            Condition::Ls,
-            Condition::Ge,
-            Condition::Lt,
-            Condition::Gt,
-            Condition::Le,
-            Condition::Al,
-        ]
+    // A match, and no search in a list: decoding is done for every clock, and this takes no jump.
+    fn of_number(number: u32) -> Option<Condition> {
+        match number {
+            0 => Some(Condition::Eq),
+            1 => Some(Condition::Ne),
+            2 => Some(Condition::Cs),
+            3 => Some(Condition::Cc),
+            4 => Some(Condition::Mi),
+            5 => Some(Condition::Pl),
+            6 => Some(Condition::Vs),
+            7 => Some(Condition::Vc),
+            8 => Some(Condition::Hi),
+            9 => Some(Condition::Ls),
+            10 => Some(Condition::Ge),
+            11 => Some(Condition::Lt),
+            12 => Some(Condition::Gt),
+            13 => Some(Condition::Le),
+            14 => Some(Condition::Al),
+            _ => None,
+        }
     }
 }

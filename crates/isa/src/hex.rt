@@ -32,8 +32,10 @@ impl fmt::Display for Hex {
     ghost output = { λ w. Some (hex_text w.0) };
 
     fn fmt<W: fmt::Write>(&self, f: &mut fmt::Formatter<W>) -> fmt::Result {
-        // Byte by byte: of this form the library promises the text.
-        let [a, b, c, d] = self.0.to_be_bytes();
-        write!(f, "{a:02x}{b:02x}{c:02x}{d:02x}")
+        match str::from_utf8(&digits(self.0)) {
+            Ok(text) => f.write_str(text),
+            // Digits are ASCII.
+            Err(_) => unreachable(),
+        }
     }
 }

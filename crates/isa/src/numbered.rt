@@ -18,9 +18,9 @@ pub(crate) trait Numbered: Copy {
     fn number(self) -> u8
         ensures { result ≡ number_of self };
 
-    /// All of them, in code.
-    fn each() -> &'static [Self]
-        ensures { result.now ≡ all };
+    /// The one of a number, if there is one.
+    fn of_number(number: u32) -> Option<Self>
+        ensures { result ≡ numbered number_of all number };
 
     /// Each is found by its number.
     ghost found: { (x : Self) → numbered number_of all (number_of x) ≡ Some x };
@@ -28,15 +28,11 @@ pub(crate) trait Numbered: Copy {
 
 impl Field {
     /// What a word names by the number in this field, if it names anything.
-    pub fn named<T: Numbered + 'static>(self, word: u32) -> Option<T>
+    pub fn named<T: Numbered>(self, word: u32) -> Option<T>
         requires low { self.low < 32 }
         requires narrow { self.width < 32 }
         ensures { result ≡ numbered T.number_of T.all (field self word) }
     {
-        let number = self.of(word);
-        T::each()
-            .iter()
-            .copied()
-            .find(|each| number == u32::from(each.number()))
+        T::of_number(self.of(word))
     }
 }

@@ -26,13 +26,14 @@ impl Numbered for Operation {
         self as u8
     }
 
-    fn each() -> &'static [Operation] {
-        &[
-            Operation::And,
-            Operation::Sub,
-            Operation::Add,
-            Operation::Cmp,
-            Operation::Orr,
-        ]
+    fn of_number(number: u32) -> Option<Operation> {
+        match number {
+            0 => Some(Operation::And),
+            2 => Some(Operation::Sub),
+            4 => Some(Operation::Add),
+            10 => Some(Operation::Cmp),
+            12 => Some(Operation::Orr),
+            _ => None,
+        }
     }
 }
