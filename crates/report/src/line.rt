@@ -1,6 +1,7 @@
 //! A line of the listing: the clock's number, the slots after the clock, and the event that it handed out.
 
 ghost use Rattle.std.specs.Prelude.{◌≡◌, ◌+◌, ◌≤◌, ◌++◌, length, drop};
+ghost use Rattle.isa.specs.Hexadecimal.{hex_text};
 ghost use Rattle.report.specs.ListingLine.{address_field, cause_mark, event_field, spaced, stop_mark, line_text};
 
 use super::text::Text;
@@ -9,17 +10,25 @@ use pipeline::calls::SlotAddresses;
 use pipeline::clock::Handed;
 use stepper::event::{Kind, Stop};
 
+// A space, then a word in eight digits: one text, to be put at once.
+fn spaced_digits(word: u32) -> [u8; 9]
+    ensures { result ≡ spaced (hex_text word) }
+{
+    let [a, b, c, d, e, f, g, h] = digits(word);
+    [b' ', a, b, c, d, e, f, g, h]
+}
+
 impl Text {
     // A space, then the address in a slot, or a dash for an empty one.
+    #[inline]
     fn put_slot(&mut self, address: Option<u32>)
         requires { length self.old + 9 ≤ 80 }
         ensures text { self.new ≡ self.old ++ spaced (address_field address) }
         ensures most { length self.new ≤ length self.old + 9 }
     {
-        self.put(b" ");
         match address {
-            Some(address) => self.put(&digits(address)),
-            None => self.put(b"-"),
+            Some(address) => self.put(&spaced_digits(address)),
+            None => self.put(b" -"),
         }
     }
 

@@ -47,10 +47,12 @@ impl Text {
         ensures text { self.new ≡ self.old ++ decimal number }
         ensures most { length self.new ≤ length self.old + 10 }
     {
-        if number >= 10 {
+        if number < 10 {
+            self.put(&[b'0' + number as u8]);
+        } else {
             self.put_decimal(number / 10);
+            self.put(&[b'0' + (number % 10) as u8]);
         }
-        self.put(&[b'0' + (number % 10) as u8]);
     }
 
     /// Copies the text to the front of a buffer and answers its length; the bytes behind it stay as they were.
