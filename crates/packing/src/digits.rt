@@ -23,8 +23,9 @@ impl Model for Digit {
 /// What the digits of a word say so far, and how many they are. So many digits make no larger number.
 #[derive(Clone, Copy)]
 pub struct Spelled {
-    word: u32,
+    // The count lies first: a text is read faster so.
     digits: u8,
+    word: u32,
 }
 
 impl Model for Spelled {

@@ -33,10 +33,14 @@ pub fn kind_of(byte: u8) -> Kind
     match byte {
         b' ' | b'\t' | b'\r' => Kind::Blank,
         b'#' => Kind::Hash,
-        _ => match char::from(byte).to_digit(16) {
-            Some(value) => Kind::Digit(Digit { value: value as u8 }),
-            None => Kind::Other,
-        },
+        b'0'..=b'9' => Kind::Digit(Digit { value: byte - b'0' }),
+        b'A'..=b'F' => Kind::Digit(Digit {
+            value: byte - b'A' + 10,
+        }),
+        b'a'..=b'f' => Kind::Digit(Digit {
+            value: byte - b'a' + 10,
+        }),
+        _ => Kind::Other,
     }
 }
 

@@ -12,6 +12,7 @@ use std::alloc::Global;
 pub const MOST_WORDS: usize = 8_064;
 
 /// The image of the words. Refused where there are none, or more than 8,064.
+#[tactic(auto, using(crate::proofs::Growing::packing_all))]
 pub fn pack(heap: Global, words: &[u32]) -> Result<Vec<u8>, PackError>
     ensures refusal { refused_by result ≡ refusal_for (length words.now) }
     ensures packed { IfOk result (λ bytes. ImageOf words.now bytes.items) }

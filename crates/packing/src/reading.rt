@@ -16,12 +16,13 @@ pub struct Reading {
 
 impl Reading {
     /// Takes in one byte. Answers the word of the line that it ends, if it ends one that has a word, or says which line
-    /// it is wrong in.
+    /// it is wrong in, and then changes nothing.
     pub fn advance(&mut self, byte: u8) -> Result<Option<u32>, TextFault>
         requires { self.old.ended + 1 < 2 ^ 64 }
         ensures next { IfOk result (λ _. advanced self.old byte ≡ Ok self.new) }
         ensures word { IfOk result (λ word. option_to_list word ≡ ended_word self.old byte) }
         ensures fault { IfErr result (λ fault. advanced self.old byte ≡ Err fault) }
+        ensures kept { IfErr result (λ _. self.new ≡ self.old) }
         ensures lines { IfOk result (λ _. self.new.ended ≤ self.old.ended + 1) }
     {
         if byte == b'\n' {

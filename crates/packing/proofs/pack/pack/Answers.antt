@@ -3,7 +3,7 @@ use Rattle.std.proofs.lemmas.Bool.{eqb-false}
 use Rattle.std.proofs.lemmas.Bool.Decides.{nat_tests}
 use Rattle.std.specs.Iterator.Adapters.{enumerate_count, enumerate_source}
 use Rattle.std.specs.Slice.Iter.{chunks_rest}
-use Rattle.packing.proofs.Growing.{packing_all, packing_more}
+use Rattle.packing.proofs.Growing.{packing_more}
 use Rattle.packing.proofs.pack.pack.Goals as goal
 
 pub loop-place-preserved : goal.loop-place-preserved
@@ -30,10 +30,7 @@ loop-place-preserved c =
       step.0.0 ∙ c.loop-place.invariant.1,
     )
 
-pub returns : goal.returns
-returns c =
+pub returns-clause-refusal : goal.returns-clause-refusal
+returns-clause-refusal c =
     let some = eqb-false (length c.args.words.now) 0 (sym c.is_empty.ensures ∙ c.if-is_empty.false) in
-    record {
-      refusal = grind (arith, nat_tests);
-      packed = packing_all c.args.words.now _ (vec_items c.loop-place.bytes) _ c.loop-place.invariant.0 c.in-None.ensures.steps.0.1.0 (omega arith) (omega arith);
-    }
+    grind (arith, nat_tests)
