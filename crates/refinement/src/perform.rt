@@ -122,6 +122,28 @@ fn perform_one<S: Store, M: Memory>(
     }
 }
 
+// The calls of a list, on a core that was just reset.
+fn perform_all<S: Store, M: Memory>(
+    heap: Global,
+    core: &mut Core,
+    store: &S,
+    memory: &mut M,
+    calls: &[Call],
+) -> Result<Performance, AllocError>
+    requires { core.old ≡ reset }
+    ensures late { IfOk result (λ p. RunsLateBeside (setting_of S.Store M.Store M.Memory.own store.now memory.old) (M.Store.word_at memory.old) (machine core.new (M.Store.word_at memory.new)) p.handed.items) }
+    ensures calls { AllTried (setting_of S.Store M.Store M.Memory.own store.now memory.old) (machine reset (M.Store.word_at memory.old)) calls.now (machine core.new (M.Store.word_at memory.new)) result }
+    ensures rest { OnlyWordsChange M.Store M.Memory.own memory.old memory.new }
+{
+    let mut answers = Vec::new(heap);
+    let mut handed = Vec::new(heap);
+    for call in calls {
+        let answer = perform_one(heap, core, store, memory, *call, &mut handed)?;
+        answers.push(answer)?;
+    }
+    Ok(Performance { answers, handed })
+}
+
 /// Resets the core and makes the calls, one after another: what each answered, and all events that were handed out.
 ///
 /// The core then runs late beside the stepper: the events are the stepper's first ones, each in the clock that the clock
@@ -139,11 +161,5 @@ pub fn perform<S: Store, M: Memory>(
     ensures rest { OnlyWordsChange M.Store M.Memory.own memory.old memory.new }
 {
     core.reset();
-    let mut answers = Vec::new(heap);
-    let mut handed = Vec::new(heap);
-    for call in calls {
-        let answer = perform_one(heap, core, store, memory, *call, &mut handed)?;
-        answers.push(answer)?;
-    }
-    Ok(Performance { answers, handed })
+    perform_all(heap, core, store, memory, calls)
 }

@@ -3,7 +3,7 @@ use Rattle.memory.specs.Keeping.{OnlyWordsChange}
 use Rattle.stepper.specs.Memories.{setting_of}
 use Rattle.pipeline.specs.Clock.{machine, reset}
 use Rattle.refinement.specs.Performing.{AllPerformed}
-use Rattle.refinement.proofs.perform.perform.Given as goal
+use Rattle.refinement.proofs.perform.perform_all.Given as goal
 
 abbrev pub invariant-loop-call : goal.invariant-loop-call
 invariant-loop-call g l =

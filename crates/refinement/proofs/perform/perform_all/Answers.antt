@@ -7,13 +7,13 @@ use Rattle.stepper.specs.Memories.{setting_of, same_setting}
 use Rattle.pipeline.specs.Clock.{machine, reset}
 use Rattle.refinement.specs.Performing.{AllPerformed, GivenUp}
 use Rattle.refinement.proofs.Performs.{none_yet, given_up_then, given_up_here, one_turn, all_late}
-use Rattle.refinement.proofs.perform.perform.Goals as goal
+use Rattle.refinement.proofs.perform.perform_all.Goals as goal
 
 pub loop-call-init : goal.loop-call-init
 loop-call-init g c =
     let s = setting_of g.S.Store g.M.Store g.M.Memory c.args.store.now c.args.memory.now in
     let words = g.M.Store.word_at c.args.memory.now in (
-      subst (λ m. AllPerformed s (machine reset words) [] (vec_items c.new-answers.result) (vec_items c.new-handed.result) (machine m words)) (sym c.reset.ensures) (rw (c.new-answers.ensures.items, c.new-handed.ensures.items) (none_yet s (machine reset words))),
+      subst (λ m. AllPerformed s (machine reset words) [] (vec_items c.new-answers.result) (vec_items c.new-handed.result) (machine m words)) (sym c.requires) (rw (c.new-answers.ensures.items, c.new-handed.ensures.items) (none_yet s (machine reset words))),
       none_changes g.M.Store g.M.Memory c.args.memory.now,
     )
 
