@@ -6,6 +6,6 @@ mod input;
 mod memories;
 mod output;
 
-pub use input::{show_image, show_input};
+pub use input::{read_image, show_image, show_input};
 pub use memories::{DATA_WORDS, stepped, with_memories};
 pub use output::{print_events, print_listing};
